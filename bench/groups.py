@@ -7,7 +7,7 @@ bench/README.md.
 
 plinq's program, bench/groups/, is proved and built over a copy of the crates, whose libraries `rt ci` has left. Its files end in
 .txt since rt refuses a source that stands in no crate. rayon's is built by cargo over Debian's librust-rayon-dev, Java's by javac;
-where one of these isn't there, its table is left out. In a round all take turns.
+if one of these isn't there, its table is left out. In a round all take turns.
 """
 import glob
 import os

@@ -5,7 +5,7 @@
     python3 bench/operators.py COMMIT      # `sequential` as it was at a commit
 
 The programs, bench/operators/chunks.rt.txt and sequential.rt.txt, are built in a temporary folder over a copy of the crates
-that they use, which are proved first where they aren't built, and run under callgrind. They end in .txt since rt refuses a
+that they use, which are proved first if they aren't built, and run under callgrind. They end in .txt since rt refuses a
 source that stands in no crate.
 """
 import os

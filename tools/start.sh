@@ -39,7 +39,7 @@ workers_of() {
 }
 
 # How many cores this process may use: those of its affinity that are there, but no more than the quota of any control group
-# around it, rounded up, and at most 64. None where the system doesn't say.
+# around it, rounded up, and at most 64. None if the system doesn't say.
 count_cores() {
     cores=0 allowed=
     [ -r /proc/self/status ] || return 0

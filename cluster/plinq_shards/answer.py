@@ -118,7 +118,7 @@ def all_or_nothing(cluster, shards, write):
 
 
 def value_of(cluster, shards, kind, write):
-    """Writes the value of an aggregate, where all shards end well."""
+    """Writes the value of an aggregate, if all shards end well."""
     value = None if kind in ("min", "max") else 0
     for shard, asked in cluster.in_order(shards, lambda it: (it.steps, kind)):
         answer = asked.answer()

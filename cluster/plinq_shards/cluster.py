@@ -9,7 +9,7 @@ import distributed
 from . import program
 from .trouble import own
 
-# Dask sends a shard again so often where its answer failed on a worker.
+# Dask sends a shard again so often if its answer failed on a worker.
 RETRIES = 3
 # How many seconds there may be no worker at all.
 PATIENCE = 30

@@ -8,7 +8,7 @@ from .trouble import own
 
 
 def opened(name):
-    """A file of numbers, and its length, where it has one before it is read."""
+    """A file of numbers, and its length, if it has one before it is read."""
     try:
         file = open(name, "rb")
         return file, os.fstat(file.fileno()).st_size

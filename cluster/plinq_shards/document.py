@@ -74,7 +74,7 @@ def understood(program, text, workers=None, merge=None):
         source=value["source"],
         steps=operators,
         merge=next(it[len("merge ") :] for it in lines if it.startswith("merge ")),
-        # (one of each worker's threads has a shard, so a shard has one thread where nothing else is asked for)
+        # (one of each worker's threads has a shard, so a shard has one thread if nothing else is asked for)
         degree=asked or 1,
         aggregate=value.get("aggregate"),
     )

@@ -117,7 +117,7 @@ def read_answer(output, status, errors):
 
 
 def run(path, question, is_wanted):
-    """The answer to a question: items as lines, and their ending. It is None where only the first items are there."""
+    """The answer to a question: items as lines, and their ending. It is None if only the first items are there."""
     process = started(path, *words_and_document(question))
     try:
         output, is_whole = output_of(process, question["most"], is_wanted)

@@ -36,7 +36,7 @@ class Progress:
         return f"{said}, {self.dashboard}" if self.dashboard else said
 
     def show(self):
-        """Shows the line, where there is a terminal and it hasn't just been shown."""
+        """Shows the line, if there is a terminal and it hasn't just been shown."""
         now = time.monotonic()
         if not self.is_shown or now < self.shown + EVERY:
             return

@@ -9,7 +9,7 @@ MOST_ELEMENTS = 1 << 19
 MOST_OF_AGGREGATE = 1 << 24
 MOST_OF_LIST = 1 << 18
 MOST_OF_TEXT = 4 << 20
-# No shard is worth its way for less, where nobody says how many there are to be.
+# No shard is worth its way for less, if nobody says how many there are to be.
 LEAST_ELEMENTS = 1 << 13
 # In a text only digits, signs, spaces and line feeds mean anything, and any other byte makes its number malformed.
 MEANT = bytes(it if it in b"0123456789- " else ord(" ") if it == ord("\n") else ord("x") for it in range(256))
@@ -19,7 +19,7 @@ MEANT = bytes(it if it in b"0123456789- " else ord(" ") if it == ord("\n") else 
 class Shard:
     """A part of a source, with its place among the others, and the steps that are to be done on it alone.
 
-    The length is how many items it has, where that is known before it is asked; the size is about how many elements.
+    The length is how many items it has, if that is known before it is asked; the size is about how many elements.
     """
 
     at: int
@@ -40,7 +40,7 @@ class Shard:
 
 @dataclasses.dataclass(frozen=True)
 class Cut:
-    """How a source is to be cut: into so many shards, or, where that isn't said, for so many threads."""
+    """How a source is to be cut: into so many shards, or, if that isn't said, for so many threads."""
 
     shards: int
     threads: int
@@ -55,7 +55,7 @@ class Cut:
 
 
 def elements_for(steps, aggregate):
-    """How many elements a shard may have: fewer where each may become many."""
+    """How many elements a shard may have: fewer if each may become many."""
     most = MOST_OF_AGGREGATE if aggregate else MOST_ELEMENTS
     for name, *rest in steps:
         if name == "select_many" and rest[0] == "repeat":
@@ -134,7 +134,7 @@ def of_repeat(source, cut):
 
 
 def parts_of(source, cut):
-    """The parts of a source in its order, each with its size, and its length where that is known and it ends well."""
+    """The parts of a source in its order, each with its size, and its length if that is known and it ends well."""
     if "concat" in source:
         for it in source["concat"]:
             yield from parts_of(it, cut)
