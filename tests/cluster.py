@@ -572,7 +572,7 @@ def other_programs(tests, folder):
     why = "plinq-cluster: scheduler tls://127.0.0.1:1: /nowhere/CA_FILE: No such file or directory"
     tests.check("TLS with a file that isn't there", is_trouble(seen, ANSWER, why), seen)
     seen = ended(begun(["--local", "3"], prefix=["prlimit", "--nofile=40"]))
-    why = "plinq-cluster: 3 workers can't be started on this machine: Too many open files"
+    why = "plinq-cluster: a cluster can't be started on this machine: Too many open files"
     tests.check("too few files for a local cluster", is_trouble(seen, ANSWER, why), seen)
 
 

@@ -72,7 +72,7 @@ def started(count, security, folder):
             )
     except Exception as error:
         # (what Dask raises after a system call that failed is of any type)
-        raise own(f"{count} workers can't be started on this machine: {reason(error)}") from None
+        raise own(f"a cluster can't be started on this machine: {reason(error)}") from None
 
 
 @contextlib.contextmanager
