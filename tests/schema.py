@@ -105,6 +105,19 @@ def changed(comparing, changes):
     comparing.all("the longest and one byte more", [b" " * length + b"0" for length in (16_777_215, 16_777_216)])
 
 
+def too_many(tests):
+    """Far more steps or names than a document may have: each takes seconds, and a line of a length that can be read."""
+    steps = ",".join(['["select","add","x"]'] * 600_000)
+    seen = checked([], f'{{"version":1,"source":{{"list":[1]}},"query":[{steps}]}}'.encode())
+    lines = seen.errors.decode().splitlines()
+    is_so = seen.status == 2 and any("query: " in it and "a list of at most 1,000 steps" in it for it in lines) and len(lines) < 1_100
+    tests.check("600,000 steps", is_so, (seen.status, len(lines), lines[:2]))
+    names = ",".join(f'"name{it}":1' for it in range(600_000))
+    seen = checked([], f"{{{names}}}".encode())
+    is_so = seen.status == 2 and b'"name19" and 599980 more can\'t stand here; what can: "version"' in seen.errors and len(seen.errors) < 2_000
+    tests.check("600,000 names", is_so, (seen.status, seen.errors[:200]))
+
+
 def long_lists(tests):
     """One item that is wrong behind 1,400,000 that are right: its place is the one that it has in the document."""
     numbers = ",".join(map(str, range(1_400_000)))
@@ -255,6 +268,7 @@ def main():
     wants = {None, "not JSON", "too long", "wrong shape", "unknown version", "source too large", "zero", "first above max", "max too large", "unknown", "not at source", "merge twice", "degree twice", "degree out of range"}
     tests.check("every cause came", set(comparing.seen) == wants, comparing.seen)
     tests.check("many were accepted", comparing.seen[None] > 1_000, comparing.seen)
+    too_many(tests)
     long_lists(tests)
     as_a_program(tests)
     elsewhere(tests)
