@@ -285,6 +285,11 @@ def mistaken(tests, local):
     except plinq_shards.Trouble as why:
         said = (str(why), why.status)
     tests.check("a document that is refused", said == ("plinq: document: unknown version", 2), said)
+    try:
+        said = plinq_shards.run(local.client, '{"version":1,"source":{"text":"\ud800"},"query":[]}', PROGRAM)
+    except (plinq_shards.Trouble, UnicodeError) as why:
+        said = (str(why), getattr(why, "status", None))
+    tests.check("a document with half of a character", said == ("plinq: document: not JSON", 2), said)
     said = plinq_shards.run(local.client, document, pathlib.Path(PROGRAM))
     tests.check("a program by a Path", said == plinq_shards.Answer([1], "end"), said)
 

@@ -64,7 +64,8 @@ def run(client, document, program=PROGRAM, shards=None):
     # (workers need no file of this folder)
     cloudpickle.register_pickle_by_value(by_worker)
     name, path = found(program)
-    text = document.encode() if isinstance(document, str) else document
+    # (half of a character that is written as two is plinq's to refuse)
+    text = document.encode("utf-8", "surrogatepass") if isinstance(document, str) else document
     text = text if isinstance(text, bytes) else json.dumps(text).encode()
     asked = understood(path, text)
     there = Cluster(client, f"scheduler {client.scheduler.address}", name, asked.degree, Progress(None))
