@@ -46,6 +46,7 @@ CALLS = {
     "contains": ("library", "refused_room::a_line_that_was_refused_is_found_the_next_time"),
     "typed queries": ("query", "refused_room::queries_that_are_refused_are_answered_the_next_time"),
     "steps by position": ("query", "refused_room::steps_by_position_that_are_refused_are_answered_the_next_time"),
+    "what steps by position leave, delivered": ("query", "refused_room::a_delivery_that_is_refused_delivers_nothing_and_is_answered_the_next_time"),
     "run and aggregate by one worker": ("run", "refused_room::one_worker_may_be_refused_room"),
     "run and aggregate by two workers": ("run", "refused_room::two_workers_may_be_refused_room"),
     "run and aggregate by eight workers": ("run", "refused_room::eight_workers_may_be_refused_room"),

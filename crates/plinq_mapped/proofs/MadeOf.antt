@@ -18,7 +18,7 @@ use Rattle.plinq_run.specs.declared.run_fault.RunFault.{RunFault}
 use Rattle.plinq_run.specs.Parting.{Breaks, IsFolded, WasGiven, GivesSome}
 use Rattle.plinq_run.specs.Runs.{Cause, cause_of, BreaksFor, Runs}
 use Rattle.plinq_mapped.specs.declared.deliver_made.DeliverMade.{DeliverMade}
-use Rattle.plinq_mapped.specs.inner.Making.{parts_joined, Gives, MadeBy}
+use Rattle.plinq_mapped.specs.Making.{parts_joined, Gives, MadeBy}
 use Rattle.plinq_mapped.specs.declared.keep_made.KeepMade.{KeepMade}
 use Rattle.plinq_mapped.specs.declared.keep_made.Kept.{Kept}
 use Rattle.plinq_mapped.specs.inner.Keeping.{KeepsBy}

@@ -8,7 +8,7 @@ use Rattle.plinq_source.proofs.Followed.{followed_by-followed_by}
 use Rattle.plinq_ops.specs.Batches.{batches_from}
 use Rattle.plinq_merge.specs.declared.delivery_fault.DeliveryFault.{DeliveryFault}
 use Rattle.plinq_merge.specs.Sending.{IsCutOff}
-use Rattle.plinq_mapped.specs.inner.Making.{parts_joined, parts-append, parts-one, DeliversOn, Gives, gives-after, gives-breaks}
+use Rattle.plinq_mapped.specs.Making.{parts_joined, parts-append, parts-one, DeliversOn, Gives, gives-after, gives-breaks}
 use Rattle.plinq_mapped.specs.inner.Keeping.{Keeps, keeps-after}
 use Rattle.plinq_mapped.specs.Mapped.{trace_at}
 

@@ -1,3 +1,4 @@
+pub mod Making
 pub mod Mapped
 pub mod PartingRows
 pub mod inner

@@ -2,7 +2,7 @@ ghost use Rattle.std.specs.Prelude.{◌≡◌, [], ◌∷◌, true, Ok, None, le
 ghost use Rattle.plinq_source.specs.Trace.{open_trace, ended_trace};
 ghost use Rattle.plinq_ops.specs.Batches.{batch_size, is_full};
 ghost use Rattle.plinq_merge.specs.Sending.{Delivers};
-ghost use Rattle.plinq_mapped.specs.inner.Making.{Gives, DeliversOr, MadeBy, made-lawful};
+ghost use Rattle.plinq_mapped.specs.Making.{Gives, DeliversOr, MadeBy, made-lawful};
 
 use plinq_groups::Mapped;
 use plinq_merge::{DeliveryFault, Sink, TakeInto, Taker};
@@ -10,18 +10,24 @@ use plinq_ops::MergeOption;
 use plinq_source::Ending;
 use std::alloc::Global;
 
-/// Delivers what was made, in batches. The first item that faults ends the answer.
+/// Delivers what was made to a sink, in batches. Of the parts of a run's answer the first item that faults ends it.
+///
+/// ```text
+/// let mut made = DeliverMade::new(alloc, MergeOption::AutoBuffered);
+/// made.put(item, &mut sink)?;         // for each item
+/// made.end(Ending::End, &mut sink)?;
+/// ```
 #[derive(Drop)]
-pub(crate) struct DeliverMade<B> {
+pub struct DeliverMade<B> {
     /// After how many a batch is full; a fully buffered one never is.
-    pub(crate) size: Option<usize>,
+    pub size: Option<usize>,
     /// What is held back until a batch is full.
-    pub(crate) held: Vec<B>,
+    pub held: Vec<B>,
 }
 
 impl<B: Drop> DeliverMade<B> {
     /// Delivers by this merge option; nothing was made yet. It takes no memory.
-    pub(crate) fn new(alloc: Global, option: MergeOption) -> DeliverMade<B>
+    pub fn new(alloc: Global, option: MergeOption) -> DeliverMade<B>
         ensures size { result.size ≡ batch_size option }
         ensures held { result.held.items ≡ [] }
     {
@@ -42,7 +48,12 @@ impl<B: Drop> DeliverMade<B> {
     }
 
     /// Holds one more back, and hands out the batch that it fills.
-    fn put<K: Sink<Item = B>>(&mut self, one: B, out: &mut K) -> Result<(), DeliveryFault>
+    ///
+    /// # Errors
+    ///
+    /// [`DeliveryFault::Memory`] if there is no room for it, [`DeliveryFault::Sink`] if the sink refuses the batch. It is of no more
+    /// use then.
+    pub fn put<K: Sink<Item = B>>(&mut self, one: B, out: &mut K) -> Result<(), DeliveryFault>
         ensures size { self.new.size ≡ self.old.size }
         ensures gives { DeliversOr K.accepts K.refuses self.old.size self.old.held.items out.old (open_trace (one ∷ [])) result self.new.held.items out.new }
     {
@@ -65,8 +76,12 @@ impl<B: Drop> DeliverMade<B> {
         Ok(())
     }
 
-    /// Hands out what is held back, as the answer's ending says.
-    fn end<K: Sink<Item = B>>(
+    /// Hands out what is held back, as the answer's ending says: if all is delivered at once, nothing but at [`Ending::End`].
+    ///
+    /// # Errors
+    ///
+    /// [`DeliveryFault::Sink`] if the sink refuses that batch.
+    pub fn end<K: Sink<Item = B>>(
         &mut self,
         ending: Ending,
         out: &mut K,

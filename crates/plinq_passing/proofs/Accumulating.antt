@@ -1,8 +1,9 @@
 -- What an aggregate, a count or a search of what is passed on says of the query.
-use Rattle.std.specs.Prelude.{◌≡◌, ◌≢◌, ⊤, ℕ, ◌≤◌, ◌^◌, List, [], ◌∷◌, length, drop, Bool, false, Option, Some, None, Result, Ok, Err}
+use Rattle.std.specs.Prelude.{◌≡◌, ◌≢◌, ⊤, ℕ, ◌≤◌, ◌^◌, List, [], ◌∷◌, length, drop, Bool, true, false, Option, Some, None, Result, Ok, Err}
 use Rattle.std.specs.Prelude.{MatchResult, IfErr}
 use Rattle.std.specs.List.{fold}
 use Rattle.std.proofs.Common.{refl, arith, ◌∙◌, ap, subst, sym}
+use Rattle.plinq_source.specs.declared.ending.Ending.{Ending}
 use Rattle.plinq_source.specs.declared.ending.Ending.TheVariants.{End}
 use Rattle.plinq_source.specs.Trace.{Trace}
 use Rattle.plinq_aggregate.specs.Folding.{Folding, aggregate_value}
@@ -13,8 +14,20 @@ use Rattle.plinq_steps.specs.Means.{Follows, Unchanged, undecided}
 use Rattle.plinq_passing.specs.declared.keep_first.KeepFirst.{KeepFirst}
 use Rattle.plinq_passing.specs.declared.query_fault.QueryFault.{QueryFault}
 use Rattle.plinq_passing.specs.declared.query_fault.QueryFault.TheVariants.{Degree, Growth, Ended, Run}
-use Rattle.plinq_passing.specs.Ran.{SearchFails, FailsAlone, EndedOrRefused, EndsUnless, told_first}
-use Rattle.plinq_passing.specs.Passing.{PassedOn, FoldsOne, told_folded}
+use Rattle.plinq_passing.specs.Ran.{Ran, SearchFails, FailsAlone, EndedOrRefused, EndsUnless, ended_unless, told_first}
+use Rattle.plinq_passing.specs.Passing.{FoldsOne, told_folded}
+
+-- ---- how what is left ends
+
+-- if it isn't decided, it ends as the source does
+ends-unless : (decided : Bool) (ending : Option Ending) (e : Ending) → ended_unless decided ending ≡ Some e → decided ≡ false → ending ≡ Some e
+ends-unless true ending e is none = absurd (let bad : ◌≡◌ {A = Bool} true false = none in cc)
+ends-unless false ending e is none = is
+
+-- what doesn't end well isn't decided
+still-open : (decided : Bool) (ending : Option Ending) (e : Ending) → ended_unless decided ending ≡ Some e → e ≢ End → decided ≡ false
+still-open true ending e is bad = absurd (bad (cc))
+still-open false ending e is bad = refl
 
 -- ---- an accumulator
 
@@ -51,12 +64,13 @@ module _ {T A O P K : Type 0} (folding : P → Folding T A O) (by : K → P) (ac
         (subst (λ o. MatchResult (told_folded (folding (by s)) (Ok tt) o) Value Fails) (sym has.is) (refl, ends))
 
     pub folded-told : (workers : ℕ) (growth : Option (ℕ × ℕ × ℕ)) (r : Result ⊤ QueryFault) (s' : K)
-        → PassedOn Takes Refuses workers growth ys decided t.ending s r s'
+        → Ran Takes Refuses workers growth ys (ended_unless decided t.ending) s r s'
         → MatchResult (told_folded (folding (by s')) r (acc s')) Value (SearchFails (decided ≡ false) workers growth t)
-    folded-told workers growth (Ok all) s' is = folded-well s' _ is.0 is.1
-    folded-told workers growth (Err Degree) s' is = is
-    folded-told workers growth (Err (Growth fault)) s' is = is
-    folded-told workers growth (Err (Ended e)) s' is = (is.1, is.2, is.3)
+    folded-told workers growth (Ok all) s' is = folded-well s' _ is.0 (ends-unless decided t.ending End is.1)
+    folded-told workers growth (Err Degree) s' is = is.1
+    folded-told workers growth (Err (Growth fault)) s' is = is.1
+    folded-told workers growth (Err (Ended e)) s' is =
+        let no = still-open decided t.ending e is.1 is.2 in (ends-unless decided t.ending e is.1 no, is.2, no)
     folded-told workers growth (Err (Run Memory)) s' is = refl
     folded-told workers growth (Err (Run (Sink code))) s' is = refl
     folded-told workers growth (Err (Run Tickets)) s' is = refl
@@ -64,12 +78,13 @@ module _ {T A O P K : Type 0} (folding : P → Folding T A O) (by : K → P) (ac
     folded-told workers growth (Err (Run Incomplete)) s' is = refl
     folded-told workers growth (Err (Run Cancelled)) s' is = absurd is
 
-    pub folded-alone : (r : Result ⊤ QueryFault) (s' : K) → IfErr r EndedOrRefused → PassedOn Takes Refuses 1 None ys decided t.ending s r s'
+    pub folded-alone : (r : Result ⊤ QueryFault) (s' : K) → IfErr r EndedOrRefused → Ran Takes Refuses 1 None ys (ended_unless decided t.ending) s r s'
         → MatchResult (told_folded (folding (by s')) r (acc s')) Value (FailsAlone (decided ≡ false) t)
-    folded-alone (Ok all) s' alone is = folded-well s' _ is.0 is.1
+    folded-alone (Ok all) s' alone is = folded-well s' _ is.0 (ends-unless decided t.ending End is.1)
     folded-alone (Err Degree) s' alone is = absurd alone
     folded-alone (Err (Growth fault)) s' alone is = absurd alone
-    folded-alone (Err (Ended e)) s' alone is = (is.1, is.2, is.3)
+    folded-alone (Err (Ended e)) s' alone is =
+        let no = still-open decided t.ending e is.1 is.2 in (ends-unless decided t.ending e is.1 no, is.2, no)
     folded-alone (Err (Run Memory)) s' alone is = refl
     folded-alone (Err (Run (Sink code))) s' alone is = refl
     folded-alone (Err (Run Tickets)) s' alone is = absurd alone
@@ -107,13 +122,15 @@ module _ {B : Type 0} where
     found o y is first = (is ∙ sym first, λ none. absurd (let bad : ◌≡◌ {A = Option B} (Some y) None = sym is ∙ none in cc))
 
     pub first-passed : (workers : ℕ) (growth : Option (ℕ × ℕ × ℕ)) (r : Result ⊤ QueryFault) (s' : KeepFirst B)
-        → PassedOn TakesNone KeepsOne workers growth ys decided t.ending s r s'
+        → Ran TakesNone KeepsOne workers growth ys (ended_unless decided t.ending) s r s'
         → MatchResult (told_first s'.item r) (λ o. (o ≡ first_of ys) × (o ≡ None → decided ≡ false → t.ending ≡ Some End))
         (SearchFails ((first_of ys ≡ None) × (decided ≡ false)) workers growth t)
-    first-passed workers growth (Ok all) s' is = (sym (no-first ys s s' is.0), λ none. is.1)
-    first-passed workers growth (Err Degree) s' is = is
-    first-passed workers growth (Err (Growth fault)) s' is = is
-    first-passed workers growth (Err (Ended e)) s' is = (is.1, is.2, (no-first ys s s' is.0, is.3))
+    first-passed workers growth (Ok all) s' is = (sym (no-first ys s s' is.0), λ none. ends-unless decided t.ending End is.1)
+    first-passed workers growth (Err Degree) s' is = is.1
+    first-passed workers growth (Err (Growth fault)) s' is = is.1
+    first-passed workers growth (Err (Ended e)) s' is =
+        let no = still-open decided t.ending e is.1 is.2 in
+        (ends-unless decided t.ending e is.1 no, is.2, (no-first ys s s' is.0, no))
     first-passed workers growth (Err (Run Memory)) s' is = refl
     first-passed workers growth (Err (Run (Sink code))) s' is = let one = the-first ys s s' code is in found s'.item one.0 one.1 one.2
     first-passed workers growth (Err (Run Tickets)) s' is = refl

@@ -14,9 +14,9 @@ use Rattle.plinq_steps.specs.Means.{GoesOn}
 use Rattle.plinq_passing.specs.declared.passes.Passed.{Passed}
 use Rattle.plinq_passing.specs.declared.query_fault.QueryFault.{QueryFault}
 use Rattle.plinq_passing.specs.declared.query_fault.QueryFault.TheVariants.{Degree, Growth, Ended, Run}
-use Rattle.plinq_passing.specs.Ran.{Ran}
+use Rattle.plinq_passing.specs.Ran.{Ran, ended_unless}
 use Rattle.plinq_passing.proofs.Searching.{unbuffered}
-use Rattle.plinq_passing.specs.Passing.{PassesOn, RefusesIt, Stops, Carries, PassedOn, told_over}
+use Rattle.plinq_passing.specs.Passing.{PassesOn, RefusesIt, Stops, Carries, told_over}
 
 items-singly : {B : Type 0} (xs : List B) → items_of (singles xs) ≡ xs
 items-singly [] = refl
@@ -124,12 +124,14 @@ module _ {K B : Type 0} (takes : K → B → K → Type 0) (refuses : K → B �
 
     module _ (workers : ℕ) (growth : Option (ℕ × ℕ × ℕ)) (xs : List A) (ending : Option Ending) (s t : Passed L K) (g : List A → List B) (d : List A → Bool)
         (more : ended s.later ≡ false) (means : Means s.later g d) where
-      stopped : (code : ℕ) (over : Bool) → t.over ≡ over → RefusesNext Takes Refuses s xs code t
-          → PassedOn takes refuses workers growth (g xs) (d xs) ending s.to (told_over (Err (Run (Sink code))) over) t.to
+      abbrev Went : Result ⊤ QueryFault → Type 0
+      Went r = Ran takes refuses workers growth (g xs) (ended_unless (d xs) ending) s.to r t.to
+
+      stopped : (code : ℕ) (over : Bool) → t.over ≡ over → RefusesNext Takes Refuses s xs code t → Went (told_over (Err (Run (Sink code))) over)
       stopped code true over (sent, x, rest, m, parts, leads, last) =
           let came = passed-over sent x rest s m t code g d more means leads last over in (
             subst (λ zs. Leads takes s.to (g zs) t.to) (sym parts) came.0,
-            λ none. absurd (let bad : ◌≡◌ {A = Bool} true false = sym came.1 ∙ ap d (sym parts) ∙ none in cc),
+            ap (λ is. ended_unless is ending) (ap d parts ∙ came.1),
           )
       stopped code false over (sent, x, rest, m, parts, leads, last) =
           subst (λ zs. RefusesNext takes refuses s.to (g zs) code t.to) (sym parts) (passed-refused sent x rest s m t code g d more means leads last over)
@@ -139,12 +141,13 @@ module _ {K B : Type 0} (takes : K → B → K → Type 0) (refuses : K → B �
           subst (λ zs. TakesBeginning takes s.to (g zs) t.to) (sym parts) (passed-some sent rest s t g d more means leads)
 
       -- how a run into steps by position went
-      pub passed-ran : (r : Result ⊤ QueryFault) → Ran Takes Refuses workers growth xs ending s r t
-          → PassedOn takes refuses workers growth (g xs) (d xs) ending s.to (told_over r t.over) t.to
-      passed-ran (Ok all) ran = let came = passed-all xs s t g d more means ran.0 in (came.leads, λ none. ran.1)
-      passed-ran (Err Degree) ran = ran.1
-      passed-ran (Err (Growth fault)) ran = ran.1
-      passed-ran (Err (Ended e)) ran = let came = passed-all xs s t g d more means ran.0 in (came.leads, ran.1, ran.2, came.is)
+      pub passed-ran : (r : Result ⊤ QueryFault) → Ran Takes Refuses workers growth xs ending s r t → Went (told_over r t.over)
+      passed-ran (Ok all) ran =
+          let came = passed-all xs s t g d more means ran.0 in (came.leads, ap (λ is. ended_unless is ending) came.is ∙ ran.1)
+      passed-ran (Err Degree) ran = (ap (λ p. p.to) ran.0, ran.1)
+      passed-ran (Err (Growth fault)) ran = (ap (λ p. p.to) ran.0, ran.1)
+      passed-ran (Err (Ended e)) ran =
+          let came = passed-all xs s t g d more means ran.0 in (came.leads, ap (λ is. ended_unless is ending) came.is ∙ ran.1, ran.2)
       passed-ran (Err (Run Memory)) ran = some-came ran
       passed-ran (Err (Run (Sink code))) ran = stopped code t.over refl ran
       passed-ran (Err (Run Tickets)) ran = some-came ran
@@ -155,5 +158,5 @@ module _ {K B : Type 0} (takes : K → B → K → Type 0) (refuses : K → B �
       -- the same of the items of batches
       pub passed-batches : (r : Result ⊤ QueryFault)
           → Ran Takes Refuses workers growth (items_of (batches NotBuffered (record { items = xs; ending = ending }))) ending s r t
-          → PassedOn takes refuses workers growth (g xs) (d xs) ending s.to (told_over r t.over) t.to
+          → Went (told_over r t.over)
       passed-batches r ran = passed-ran r (subst (λ ys. Ran Takes Refuses workers growth ys ending s r t) (items-unbuffered xs ending) ran)

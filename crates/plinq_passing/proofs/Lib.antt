@@ -1,7 +1,10 @@
 pub mod Accumulating
 mod Carrying
 mod Delivering
+mod Gathering
+mod Lending
 pub mod OneByOne
 pub mod Searching
 mod Telling
+mod Touching
 mod Visited

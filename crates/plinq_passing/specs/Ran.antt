@@ -86,6 +86,15 @@ decided_by f d t = d (filter_map f t.items)
 abbrev pub EndsUnless : {T : Type 0} → Bool → Trace T → Type 0
 EndsUnless decided t = decided ≡ false → t.ending ≡ Some End
 
+-- how what is left ends: well once it is decided, and else as the source did
+abbrev pub ended_unless : Bool → Option Ending → Option Ending
+ended_unless true ending = Some End
+ended_unless false ending = ending
+
+-- all that is left, and how it ends
+abbrev pub left_trace : {T B C : Type 0} → (T → Option B) → (List B → List C) → (List B → Bool) → Trace T → Trace C
+left_trace f g d t = record { items = left_of f g t; ending = ended_unless (decided_by f d t) t.ending }
+
 -- why a search fails, but on one thread, where nothing but memory can be short
 abbrev pub FailsAlone : {T : Type 0} → Type 0 → Trace T → QueryFault → Type 0
 FailsAlone Undecided t Degree = ⊥
@@ -120,6 +129,13 @@ told_not (Err fault) = Err fault
 -- of what was decided before a refusal nothing is said of it
 decided_before_it : EndsUnless true (ended_trace {T = ℕ} [] (Refused 7))
 decided_before_it still = absurd (cc)
+
+-- and it ends well
+ends_once_decided : ended_unless true (Some (Refused 7)) ≡ Some End
+ends_once_decided = refl
+
+refused_undecided : ended_unless false (Some (Refused 7)) ≡ Some End → ⊥
+refused_undecided is = absurd (let bad : ◌≡◌ {A = Option Ending} (Some (Refused 7)) (Some End) = is in cc)
 
 undecided_before_it : EndsUnless false (ended_trace {T = ℕ} [] (Refused 7)) → ⊥
 undecided_before_it ends = absurd (let bad : ◌≡◌ {A = Option Ending} (Some (Refused 7)) (Some End) = ends refl in cc)

@@ -2,7 +2,8 @@
 //!
 //! - [`aggregate_steps`] folds what the steps make, [`run_steps_into`] delivers it to a sink in batches, [`call_by_threads`] calls with
 //!   each item ([`Visits`]). [`pass_by_threads`] does so with what steps by position make of it ([`Passed`]).
-//! - [`aggregate_steps_alone`], [`call_alone`] and [`pass_alone`] are the same on the caller's thread, and return.
+//! - [`run_left_into`] and [`call_left_by_threads`] deliver what steps by position leave, in batches or call by call.
+//! - [`aggregate_steps_alone`], [`call_alone`], [`pass_alone`] and [`call_left_alone`] are the same on the caller's thread, and return.
 //! - What is called may be a closure ([`Tells`], [`Tries`]), an accumulator ([`Folded`]), or what keeps the first item
 //!   ([`KeepFirst`]). [`told_folded`], [`told_first`], [`told_found`] and [`told_not`] make a call's result of how the run ended.
 //! - [`QueryFault`] says why there is no answer, [`ByThreads`] has the settings of a run by threads.
@@ -16,7 +17,10 @@ mod by_threads;
 mod call_each;
 mod calling;
 mod folds;
+mod gathers;
 mod keep_first;
+mod leaving;
+mod lends;
 mod made;
 mod passes;
 mod passing;
@@ -31,6 +35,7 @@ pub use by_threads::ByThreads;
 pub use calling::{call_alone, call_by_threads};
 pub use folds::{Folded, Folds, told_folded};
 pub use keep_first::{First, KeepFirst};
+pub use leaving::{call_left_alone, call_left_by_threads, run_left_into};
 pub use passes::{Passed, Passes};
 pub use passing::{pass_alone, pass_by_threads};
 pub use query_fault::QueryFault;

@@ -1,10 +1,9 @@
 //! The run of steps whose items go through steps by position, and on.
 ghost use Rattle.std.specs.Prelude.{◌≡◌, List, Bool, Option, Err, IfErr, None, false};
-ghost use Rattle.std.specs.List.{filter_map};
 ghost use Rattle.plinq_ops.specs.Query.{is_degree};
 ghost use Rattle.plinq_passing.specs.declared.query_fault.QueryFault.TheVariants.{Degree};
-ghost use Rattle.plinq_passing.specs.Ran.{EndedOrRefused};
-ghost use Rattle.plinq_passing.specs.Passing.{PassedOn, told_over};
+ghost use Rattle.plinq_passing.specs.Ran.{Ran, EndedOrRefused, left_trace};
+ghost use Rattle.plinq_passing.specs.Passing.{Touched, told_over};
 
 use crate::by_threads::ByThreads;
 use crate::calling::{call_alone, call_by_threads};
@@ -65,10 +64,10 @@ where
     requires may_call { W.is_called }
     requires may_call_in_one_way { (a b : W.is_called) → a ≡ b }
     ensures degree { is_degree settings.degree ≡ false → result ≡ Err Degree }
+    ensures touched { Touched W.takes W.refuses passed.old.to passed.new.to }
     ensures passed { (f : S.From → Option S.To) → ((x : S.From) → S.makes steps x (f x)) → (g : List S.To → List L.To) (d : List S.To → Bool)
-        → L.means passed.old.later g d → PassedOn W.takes W.refuses settings.degree settings.growth
-        (g (filter_map f (Src.whole source).items)) (d (filter_map f (Src.whole source).items)) (Src.whole source).ending
-        passed.old.to result passed.new.to }
+        → L.means passed.old.later g d → Ran W.takes W.refuses settings.degree settings.growth
+        (left_trace f g d (Src.whole source)).items (left_trace f g d (Src.whole source)).ending passed.old.to result passed.new.to }
 {
     if passed.later.has_ended() {
         plan_of::<Plain<S::From>>(alloc, settings.degree)?;
@@ -108,10 +107,10 @@ where
     requires then_called { (l : L) → L.is_called l }
     requires then_gives_one { (l : L) → L.gives_one l }
     requires may_call { W.is_called }
+    ensures touched { Touched W.takes W.refuses passed.old.to passed.new.to }
     ensures passed { (f : S.From → Option S.To) → ((x : S.From) → S.makes steps x (f x)) → (g : List S.To → List L.To) (d : List S.To → Bool)
-        → L.means passed.old.later g d → PassedOn W.takes W.refuses 1 None
-        (g (filter_map f (Src.whole source).items)) (d (filter_map f (Src.whole source).items)) (Src.whole source).ending
-        passed.old.to result passed.new.to }
+        → L.means passed.old.later g d → Ran W.takes W.refuses 1 None
+        (left_trace f g d (Src.whole source)).items (left_trace f g d (Src.whole source)).ending passed.old.to result passed.new.to }
     ensures alone { IfErr result EndedOrRefused }
 {
     if passed.later.has_ended() {

@@ -22,6 +22,7 @@ mod count_of;
 mod merged;
 mod merged_alone;
 mod merged_by_threads;
+mod merged_calling;
 mod merged_searches;
 mod merged_searches_alone;
 mod on_one_thread;

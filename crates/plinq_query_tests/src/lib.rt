@@ -7,6 +7,8 @@
 #[cfg(test)]
 mod asked_by_workers;
 #[cfg(test)]
+mod passed_on;
+#[cfg(test)]
 mod positions;
 #[cfg(test)]
 mod queries;

@@ -2,6 +2,7 @@
 ghost use Rattle.std.specs.Prelude.{◌≡◌, pos, int_lt};
 
 use plinq_aggregate::Sum;
+use plinq_ops::MergeOption;
 use plinq_query::{QueryFault, from};
 use plinq_run::RunFault;
 use plinq_slice::SliceSource;
@@ -129,5 +130,36 @@ fn steps_by_position_that_are_refused_are_answered_the_next_time(rt: HostRuntime
         );
     } else if is_window_alone_refused(&rt, rt.alloc()) {
         assert!(rt; !is_window_alone_refused(&rt, rt.alloc()));
+    }
+}
+
+/// Has what is left delivered to a sink at once, by threads. Returns whether that was refused.
+fn is_delivery_refused<R: Clock + Threads + Wait + Sync + Abort>(rt: &R, alloc: Global) -> bool {
+    let Ok(source) = SliceSource::new(&NUMBERS) else {
+        panic!(rt; "no source");
+    };
+    let mut sum = 0i64;
+    let outcome = from(source)
+        .as_parallel()
+        .with_degree(1)
+        .with_merge(MergeOption::FullyBuffered)
+        .skip(1)
+        .for_each(rt, alloc, &mut |x: i64| sum = sum.wrapping_add(x));
+    match outcome {
+        Ok(()) => {
+            assert!(rt; sum == 11);
+            false
+        }
+        Err(fault) => {
+            assert!(rt; sum == 0 && matches!(fault, QueryFault::Run(fault) if is_short(fault)));
+            true
+        }
+    }
+}
+
+#[test]
+fn a_delivery_that_is_refused_delivers_nothing_and_is_answered_the_next_time(rt: HostRuntime) {
+    if is_delivery_refused(&rt, rt.alloc()) {
+        assert!(rt; !is_delivery_refused(&rt, rt.alloc()));
     }
 }

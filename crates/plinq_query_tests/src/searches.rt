@@ -345,9 +345,9 @@ fn a_search_meets_a_refusal_only_if_it_has_found_nothing_before(rt: HostRuntime)
 
 /// A sink that notes how many items each batch has, and refuses a batch with 9 that has this item.
 #[derive(Drop)]
-struct Sizes {
-    sizes: Vec<usize>,
-    refused: i64,
+pub(crate) struct Sizes {
+    pub(crate) sizes: Vec<usize>,
+    pub(crate) refused: i64,
 }
 
 impl Sink for Sizes {
@@ -397,7 +397,7 @@ fn sizes_of<R: Clock + Threads + Wait + Sync>(
     Some((sink.sizes, outcome))
 }
 
-fn are_sizes(
+pub(crate) fn are_sizes(
     found: &Option<(Vec<usize>, Result<(), QueryFault>)>,
     wanted: &[usize],
     ended: Result<(), QueryFault>,
@@ -494,7 +494,7 @@ fn called_on_one_thread(count: u64) -> Option<(i64, Result<(), QueryFault>)> {
 }
 
 /// Counts the numbers from 0 on. One that isn't the next is answered by the code 1, a marked one by 7.
-fn note(next: &mut i64, it: (i64, bool)) -> Result<(), u32> {
+pub(crate) fn note(next: &mut i64, it: (i64, bool)) -> Result<(), u32> {
     if it.0 != *next {
         return Err(1);
     }

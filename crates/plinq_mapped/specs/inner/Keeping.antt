@@ -10,7 +10,7 @@ use Rattle.plinq_merge.specs.declared.delivery_fault.DeliveryFault.TheVariants.{
 use Rattle.plinq_merge.specs.Taking.{IsTaking}
 use Rattle.plinq_mapped.specs.declared.keep_made.KeepMade.{KeepMade}
 use Rattle.plinq_mapped.specs.declared.keep_made.Kept.{Kept}
-use Rattle.plinq_mapped.specs.inner.Making.{parts_joined, parts-append, parts-past}
+use Rattle.plinq_mapped.specs.Making.{parts_joined, parts-append, parts-past}
 
 module _ {B : Type 0} where
   -- the list has all that was made, which ends so; or there was no room

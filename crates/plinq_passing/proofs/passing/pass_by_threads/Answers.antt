@@ -1,10 +1,12 @@
 -- What is passed on is what the steps by position make of the list.
-use Rattle.std.specs.Prelude.{Bool, true, false}
+use Rattle.std.specs.Prelude.{[], true, false}
 use Rattle.std.specs.List.{filter_map}
-use Rattle.std.proofs.Common.{rules, ◌≡◌, refl, sym, subst, ◌∙◌}
+use Rattle.std.proofs.Common.{rules, ◌≡◌, refl, ap, sym, subst}
 use Rattle.std.specs.Coded.{Π_prop, ×_prop}
 use Rattle.plinq_merge.specs.Sending.{Leads}
+use Rattle.plinq_passing.specs.Ran.{ended_unless}
 use Rattle.plinq_passing.proofs.Carrying.{passed-batches}
+use Rattle.plinq_passing.proofs.Touching.{ran-touches, carried-touches}
 use Rattle.plinq_passing.proofs.passing.pass_by_threads.Goals as goal
 
 pub returns-then-has_ended-clause-passed : goal.returns-then-has_ended-clause-passed
@@ -15,7 +17,7 @@ returns-then-has_ended-clause-passed g c f makes h d means =
     let is : g.L.Positional.ended l ≡ true = search rules in
     let end = laws.at_end l is h d means (filter_map f t.items) in (
       subst (λ ys. Leads g.W.Visits.takes c.args.passed.now.to ys c.args.passed.now.to) (sym end.0) refl,
-      λ none. absurd (let bad : ◌≡◌ {A = Bool} true false = sym end.1 ∙ none in cc),
+      ap (λ is. ended_unless is t.ending) end.1,
     )
 
 pub call_by_threads-outcome-requires-clause-may_call_in_one_way : goal.call_by_threads-outcome-requires-clause-may_call_in_one_way
@@ -34,3 +36,15 @@ returns-clause-passed g c f makes h d means =
     (λ s. laws.goes_on s (c.requires.then_gives_one s)) laws.at_end laws.of_none c.args.settings.degree c.args.settings.growth (filter_map f t.items) t.ending
     c.args.passed.now c.call_by_threads-outcome.new.by h d more means c.call_by_threads-outcome.result
     (c.call_by_threads-outcome.ensures.calls f makes))
+
+pub returns-clause-touched : goal.returns-clause-touched
+returns-clause-touched g c =
+    let t = g.Src.Source.whole c.args.source in
+    let some = (g.met.S.Steps g.world.𝓛 g.world.𝓜 g.world.𝓡 ((λ s x. x), (λ x. x), (λ x. x), λ x. x)).makes_some c.args.steps c.requires.gives in
+    let ran = c.call_by_threads-outcome.ensures.calls (λ x. (some x).0) (λ x. (some x).1) in
+    carried-touches g.W.Visits.takes g.W.Visits.refuses g.L.Positional.turns g.L.Positional.ended c.args.passed.now c.call_by_threads-outcome.new.by
+    (ran-touches _ _ c.args.settings.degree c.args.settings.growth _ t.ending c.args.passed.now c.call_by_threads-outcome.result
+    c.call_by_threads-outcome.new.by ran)
+
+pub returns-then-has_ended-clause-touched : goal.returns-then-has_ended-clause-touched
+returns-then-has_ended-clause-touched g c = ([], refl)

@@ -1,6 +1,6 @@
 use Rattle.std.proofs.Common.{◌≡◌}
 use Rattle.plinq_source.specs.Trace.{open_trace}
-use Rattle.plinq_mapped.specs.inner.Making.{DeliversOn}
+use Rattle.plinq_mapped.specs.Making.{DeliversOn}
 use Rattle.plinq_mapped.proofs.deliver_made.DeliverMade.deliver.Given as goal
 
 abbrev pub invariant-loop-one : goal.invariant-loop-one

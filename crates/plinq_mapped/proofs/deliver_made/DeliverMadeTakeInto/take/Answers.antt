@@ -6,7 +6,7 @@ use Rattle.std.proofs.lemmas.Iterator.Consumers.{YieldsList-so_far, YieldsList-t
 use Rattle.plinq_source.specs.Trace.{open_trace}
 use Rattle.plinq_ops.specs.Batches.{batches_from}
 use Rattle.plinq_merge.specs.Sending.{IsCutOff}
-use Rattle.plinq_mapped.specs.inner.Making.{DeliversOn}
+use Rattle.plinq_mapped.specs.Making.{DeliversOn}
 use Rattle.plinq_mapped.proofs.PartLists.{turn-parts, all-end, part-kept, part-cut, part-ends}
 use Rattle.plinq_mapped.proofs.deliver_made.DeliverMadeTakeInto.take.Goals as goal
 

@@ -1,5 +1,5 @@
 use Rattle.std.proofs.Common.{◌≡◌, None}
-use Rattle.plinq_mapped.specs.inner.Making.{parts_joined, DeliversOn}
+use Rattle.plinq_mapped.specs.Making.{parts_joined, DeliversOn}
 use Rattle.plinq_mapped.proofs.deliver_made.DeliverMadeTakeInto.take.Given as goal
 
 abbrev pub invariant-loop-part : goal.invariant-loop-part

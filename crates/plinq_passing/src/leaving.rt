@@ -1,0 +1,370 @@
+//! The delivery of what steps by position leave, in batches or call by call.
+ghost use Rattle.std.specs.Prelude.{◌≡◌, List, [], Bool, Option, Err, IfErr, None, false};
+ghost use Rattle.plinq_collect.specs.Telling.{items_of};
+ghost use Rattle.plinq_ops.specs.Batches.{batches, batches_from};
+ghost use Rattle.plinq_ops.specs.Query.{is_degree};
+ghost use Rattle.plinq_passing.specs.declared.query_fault.QueryFault.TheVariants.{Degree};
+ghost use Rattle.plinq_passing.specs.Ran.{Ran, EndedOrRefused, left_trace};
+ghost use Rattle.plinq_passing.specs.Passing.{Finishes, SendsLast, Touched};
+
+use crate::by_threads::ByThreads;
+use crate::call_each::CallEach;
+use crate::gathers::{Gathered, Gathers};
+use crate::lends::Lends;
+use crate::passes::Passed;
+use crate::passing::{pass_alone, pass_by_threads};
+use crate::query_fault::QueryFault;
+use crate::visits::Visits;
+use plinq_mapped::DeliverMade;
+use plinq_merge::{DeliveryFault, Sink};
+use plinq_run::RunFault;
+use plinq_source::{Ending, Source};
+use plinq_steps::{Positional, Steps};
+use std::alloc::Global;
+use std::sync::Wait;
+use std::thread::Threads;
+use std::time::Clock;
+
+/// Sends what is still held back, if the ending says so; the query ends so unless that is refused.
+fn send_last<K: Sink<Item: Copy>>(
+    gathered: &mut Gathered<'_, K>,
+    ending: Ending,
+    how: Result<(), QueryFault>,
+) -> Result<(), QueryFault>
+    ensures same { gathered.new.sink.ghost_name ≡ gathered.old.sink.ghost_name }
+    ensures sent { SendsLast K.accepts K.refuses gathered.old.made.size gathered.old.made.held.items ending gathered.old.sink.now
+        how result gathered.new.sink.now }
+{
+    match gathered.made.end(ending, gathered.sink) {
+        Ok(_) => how,
+        Err(DeliveryFault::Memory) => Err(QueryFault::Run(RunFault::Memory)),
+        Err(DeliveryFault::Sink(code)) => Err(QueryFault::Run(RunFault::Sink(code))),
+    }
+}
+
+/// How the query ended, once the last batch is sent.
+fn finish<K: Sink<Item: Copy>>(
+    gathered: &mut Gathered<'_, K>,
+    outcome: Result<(), QueryFault>,
+) -> Result<(), QueryFault>
+    ensures same { gathered.new.sink.ghost_name ≡ gathered.old.sink.ghost_name }
+    ensures finished { Finishes K.accepts K.refuses gathered.old.made.size gathered.old.made.held.items gathered.old.short
+        gathered.old.sink.now outcome result gathered.new.sink.now }
+{
+    match outcome {
+        Ok(()) => send_last(gathered, Ending::End, Ok(())),
+        Err(QueryFault::Ended(ending)) => {
+            send_last(gathered, ending, Err(QueryFault::Ended(ending)))
+        }
+        Err(QueryFault::Run(RunFault::Sink(code))) => {
+            if gathered.short {
+                return Err(QueryFault::Run(RunFault::Memory));
+            }
+            Err(QueryFault::Run(RunFault::Sink(code)))
+        }
+        Err(fault) => Err(fault),
+    }
+}
+
+/// Delivers what steps by position leave of what is made of a source's items to a sink, in batches, by threads. The source is left
+/// once no more can be made.
+pub fn run_left_into<Src, S, L, K, R>(
+    source: Src,
+    steps: S,
+    later: L,
+    settings: ByThreads,
+    rt: &R,
+    alloc: Global,
+    sink: &mut K,
+) -> Result<(), QueryFault>
+where
+    S: Steps<From: Send + Sync, To: Send + Sync> + Sync + Drop,
+    Src: Source<Item = S::From>,
+    L: Positional<From = S::To> + Drop,
+    K: Sink<Item = L::To>,
+    R: Clock + Threads + Wait + Sync,
+    requires fresh { Src.given source ≡ 0 }
+    requires is_called { S.is_called steps }
+    requires in_one_way { S.in_one_way steps }
+    requires gives { S.gives steps }
+    requires gives_one { S.gives_one steps }
+    requires then_called { (l : L) → L.is_called l }
+    requires then_in_one_way { (l : L) → L.in_one_way l }
+    requires then_gives_one { (l : L) → L.gives_one l }
+    ensures degree { is_degree settings.degree ≡ false → result ≡ Err Degree }
+    ensures touched { Touched K.accepts K.refuses sink.old sink.new }
+    ensures ran { (f : S.From → Option S.To) → ((x : S.From) → S.makes steps x (f x)) → (g : List S.To → List L.To) (d : List S.To → Bool)
+        → L.means later g d → Ran K.accepts K.refuses settings.degree settings.growth (batches settings.merge (left_trace f g d (Src.whole source)))
+        (left_trace f g d (Src.whole source)).ending sink.old result sink.new }
+{
+    let mut gathered = Gathered {
+        made: DeliverMade::new(alloc, settings.merge),
+        short: false,
+        sink,
+    };
+    let outcome = run_gathered(source, steps, later, settings, rt, alloc, &mut gathered);
+    let Gathered {
+        made: _made,
+        sink: _sink,
+        ..
+    } = gathered;
+    outcome
+}
+
+/// Delivers what is left by way of what is held back, of which there is nothing at first.
+fn run_gathered<Src, S, L, K, R>(
+    source: Src,
+    steps: S,
+    later: L,
+    settings: ByThreads,
+    rt: &R,
+    alloc: Global,
+    gathered: &mut Gathered<'_, K>,
+) -> Result<(), QueryFault>
+where
+    S: Steps<From: Send + Sync, To: Send + Sync> + Sync + Drop,
+    Src: Source<Item = S::From>,
+    L: Positional<From = S::To> + Drop,
+    K: Sink<Item = L::To>,
+    R: Clock + Threads + Wait + Sync,
+    requires fresh { Src.given source ≡ 0 }
+    requires is_called { S.is_called steps }
+    requires in_one_way { S.in_one_way steps }
+    requires gives { S.gives steps }
+    requires gives_one { S.gives_one steps }
+    requires then_called { (l : L) → L.is_called l }
+    requires then_in_one_way { (l : L) → L.in_one_way l }
+    requires then_gives_one { (l : L) → L.gives_one l }
+    requires begins { gathered.old.made.held.items ≡ [] }
+    ensures degree { is_degree settings.degree ≡ false → result ≡ Err Degree }
+    ensures same { gathered.new.sink.ghost_name ≡ gathered.old.sink.ghost_name }
+    ensures touched { Touched K.accepts K.refuses gathered.old.sink.now gathered.new.sink.now }
+    ensures ran { (f : S.From → Option S.To) → ((x : S.From) → S.makes steps x (f x)) → (g : List S.To → List L.To) (d : List S.To → Bool)
+        → L.means later g d → Ran K.accepts K.refuses settings.degree settings.growth
+        (batches_from gathered.old.made.size [] (left_trace f g d (Src.whole source))) (left_trace f g d (Src.whole source)).ending
+        gathered.old.sink.now result gathered.new.sink.now }
+{
+    let outcome = visit_left::<Src, S, L, Gathers<'_, K>, R>(
+        source, steps, later, settings, rt, alloc, gathered,
+    );
+    finish(gathered, outcome)
+}
+
+/// Passes on what is left, item by item, by threads.
+fn visit_left<Src, S, L, V, R>(
+    source: Src,
+    steps: S,
+    later: L,
+    settings: ByThreads,
+    rt: &R,
+    alloc: Global,
+    by: &mut V::Called,
+) -> Result<(), QueryFault>
+where
+    S: Steps<From: Send + Sync, To: Send + Sync> + Sync + Drop,
+    Src: Source<Item = S::From>,
+    L: Positional<From = S::To> + Drop,
+    V: Visits<Item = L::To>,
+    R: Clock + Threads + Wait + Sync,
+    requires fresh { Src.given source ≡ 0 }
+    requires is_called { S.is_called steps }
+    requires in_one_way { S.in_one_way steps }
+    requires gives { S.gives steps }
+    requires gives_one { S.gives_one steps }
+    requires then_called { (l : L) → L.is_called l }
+    requires then_in_one_way { (l : L) → L.in_one_way l }
+    requires then_gives_one { (l : L) → L.gives_one l }
+    requires may_call { V.is_called }
+    requires may_call_in_one_way { (a b : V.is_called) → a ≡ b }
+    ensures degree { is_degree settings.degree ≡ false → result ≡ Err Degree }
+    ensures touched { Touched V.takes V.refuses by.old by.new }
+    ensures ran { (f : S.From → Option S.To) → ((x : S.From) → S.makes steps x (f x)) → (g : List S.To → List L.To) (d : List S.To → Bool)
+        → L.means later g d → Ran V.takes V.refuses settings.degree settings.growth
+        (left_trace f g d (Src.whole source)).items (left_trace f g d (Src.whole source)).ending by.old result by.new }
+{
+    let mut passed = Passed {
+        later,
+        to: by,
+        over: false,
+    };
+    let outcome = visit_lent::<Src, S, L, V, R>(source, steps, settings, rt, alloc, &mut passed);
+    let Passed {
+        later: _later,
+        to: _to,
+        ..
+    } = passed;
+    outcome
+}
+
+/// Passes on what is left to what is lent.
+fn visit_lent<Src, S, L, V, R>(
+    source: Src,
+    steps: S,
+    settings: ByThreads,
+    rt: &R,
+    alloc: Global,
+    passed: &mut Passed<L, &mut V::Called>,
+) -> Result<(), QueryFault>
+where
+    S: Steps<From: Send + Sync, To: Send + Sync> + Sync + Drop,
+    Src: Source<Item = S::From>,
+    L: Positional<From = S::To> + Drop,
+    V: Visits<Item = L::To>,
+    R: Clock + Threads + Wait + Sync,
+    requires fresh { Src.given source ≡ 0 }
+    requires is_called { S.is_called steps }
+    requires in_one_way { S.in_one_way steps }
+    requires gives { S.gives steps }
+    requires gives_one { S.gives_one steps }
+    requires then_called { (l : L) → L.is_called l }
+    requires then_in_one_way { (l : L) → L.in_one_way l }
+    requires then_gives_one { (l : L) → L.gives_one l }
+    requires may_call { V.is_called }
+    requires may_call_in_one_way { (a b : V.is_called) → a ≡ b }
+    ensures degree { is_degree settings.degree ≡ false → result ≡ Err Degree }
+    ensures same { passed.new.to.ghost_name ≡ passed.old.to.ghost_name }
+    ensures touched { Touched V.takes V.refuses passed.old.to.now passed.new.to.now }
+    ensures ran { (f : S.From → Option S.To) → ((x : S.From) → S.makes steps x (f x)) → (g : List S.To → List L.To) (d : List S.To → Bool)
+        → L.means passed.old.later g d → Ran V.takes V.refuses settings.degree settings.growth
+        (left_trace f g d (Src.whole source)).items (left_trace f g d (Src.whole source)).ending passed.old.to.now result passed.new.to.now }
+{
+    pass_by_threads::<Src, S, L, Lends<'_, V::Called, V>, R>(
+        source, steps, settings, rt, alloc, passed,
+    )
+}
+
+/// Calls with what steps by position leave of what is made of a source's items, in any way of calling, by threads.
+pub fn call_left_by_threads<Src, S, L, V, R>(
+    source: Src,
+    steps: S,
+    later: L,
+    settings: ByThreads,
+    rt: &R,
+    alloc: Global,
+    by: &mut V::Called,
+) -> Result<(), QueryFault>
+where
+    S: Steps<From: Send + Sync, To: Send + Sync> + Sync + Drop,
+    Src: Source<Item = S::From>,
+    L: Positional<From = S::To> + Drop,
+    V: Visits<Item = L::To>,
+    R: Clock + Threads + Wait + Sync,
+    requires fresh { Src.given source ≡ 0 }
+    requires is_called { S.is_called steps }
+    requires in_one_way { S.in_one_way steps }
+    requires gives { S.gives steps }
+    requires gives_one { S.gives_one steps }
+    requires then_called { (l : L) → L.is_called l }
+    requires then_in_one_way { (l : L) → L.in_one_way l }
+    requires then_gives_one { (l : L) → L.gives_one l }
+    requires may_call { V.is_called }
+    requires may_call_in_one_way { (a b : V.is_called) → a ≡ b }
+    ensures degree { is_degree settings.degree ≡ false → result ≡ Err Degree }
+    ensures calls { (f : S.From → Option S.To) → ((x : S.From) → S.makes steps x (f x)) → (g : List S.To → List L.To) (d : List S.To → Bool)
+        → L.means later g d → Ran V.takes V.refuses settings.degree settings.growth
+        (items_of (batches settings.merge (left_trace f g d (Src.whole source)))) (left_trace f g d (Src.whole source)).ending by.old result by.new }
+{
+    let mut sink = CallEach::<V> { by };
+    run_left_calls(source, steps, later, settings, rt, alloc, &mut sink)
+}
+
+/// Delivers what is left to a sink that calls.
+fn run_left_calls<Src, S, L, V, R>(
+    source: Src,
+    steps: S,
+    later: L,
+    settings: ByThreads,
+    rt: &R,
+    alloc: Global,
+    sink: &mut CallEach<'_, V>,
+) -> Result<(), QueryFault>
+where
+    S: Steps<From: Send + Sync, To: Send + Sync> + Sync + Drop,
+    Src: Source<Item = S::From>,
+    L: Positional<From = S::To> + Drop,
+    V: Visits<Item = L::To>,
+    R: Clock + Threads + Wait + Sync,
+    requires fresh { Src.given source ≡ 0 }
+    requires is_called { S.is_called steps }
+    requires in_one_way { S.in_one_way steps }
+    requires gives { S.gives steps }
+    requires gives_one { S.gives_one steps }
+    requires then_called { (l : L) → L.is_called l }
+    requires then_in_one_way { (l : L) → L.in_one_way l }
+    requires then_gives_one { (l : L) → L.gives_one l }
+    ensures degree { is_degree settings.degree ≡ false → result ≡ Err Degree }
+    ensures same { sink.new.by.ghost_name ≡ sink.old.by.ghost_name }
+    ensures calls { (f : S.From → Option S.To) → ((x : S.From) → S.makes steps x (f x)) → (g : List S.To → List L.To) (d : List S.To → Bool)
+        → L.means later g d → Ran V.takes V.refuses settings.degree settings.growth
+        (items_of (batches settings.merge (left_trace f g d (Src.whole source)))) (left_trace f g d (Src.whole source)).ending
+        sink.old.by.now result sink.new.by.now }
+{
+    run_left_into(source, steps, later, settings, rt, alloc, sink)
+}
+
+/// The same on the caller's thread, item by item.
+pub fn call_left_alone<Src, S, L, V>(
+    source: Src,
+    steps: S,
+    later: L,
+    by: &mut V::Called,
+) -> Result<(), QueryFault>
+where
+    S: Steps + Drop,
+    Src: Source<Item = S::From>,
+    L: Positional<From = S::To> + Drop,
+    V: Visits<Item = L::To>,
+    requires fresh { Src.given source ≡ 0 }
+    requires is_called { S.is_called steps }
+    requires in_one_way { S.in_one_way steps }
+    requires gives { S.gives steps }
+    requires gives_one { S.gives_one steps }
+    requires then_called { (l : L) → L.is_called l }
+    requires then_gives_one { (l : L) → L.gives_one l }
+    requires may_call { V.is_called }
+    ensures calls { (f : S.From → Option S.To) → ((x : S.From) → S.makes steps x (f x)) → (g : List S.To → List L.To) (d : List S.To → Bool)
+        → L.means later g d → Ran V.takes V.refuses 1 None (left_trace f g d (Src.whole source)).items
+        (left_trace f g d (Src.whole source)).ending by.old result by.new }
+    ensures alone { IfErr result EndedOrRefused }
+{
+    let mut passed = Passed {
+        later,
+        to: by,
+        over: false,
+    };
+    let outcome = call_lent::<Src, S, L, V>(source, steps, &mut passed);
+    let Passed {
+        later: _later,
+        to: _to,
+        ..
+    } = passed;
+    outcome
+}
+
+/// Calls what is lent.
+fn call_lent<Src, S, L, V>(
+    source: Src,
+    steps: S,
+    passed: &mut Passed<L, &mut V::Called>,
+) -> Result<(), QueryFault>
+where
+    S: Steps + Drop,
+    Src: Source<Item = S::From>,
+    L: Positional<From = S::To> + Drop,
+    V: Visits<Item = L::To>,
+    requires fresh { Src.given source ≡ 0 }
+    requires is_called { S.is_called steps }
+    requires in_one_way { S.in_one_way steps }
+    requires gives { S.gives steps }
+    requires gives_one { S.gives_one steps }
+    requires then_called { (l : L) → L.is_called l }
+    requires then_gives_one { (l : L) → L.gives_one l }
+    requires may_call { V.is_called }
+    ensures same { passed.new.to.ghost_name ≡ passed.old.to.ghost_name }
+    ensures calls { (f : S.From → Option S.To) → ((x : S.From) → S.makes steps x (f x)) → (g : List S.To → List L.To) (d : List S.To → Bool)
+        → L.means passed.old.later g d → Ran V.takes V.refuses 1 None (left_trace f g d (Src.whole source)).items
+        (left_trace f g d (Src.whole source)).ending passed.old.to.now result passed.new.to.now }
+    ensures alone { IfErr result EndedOrRefused }
+{
+    pass_alone::<Src, S, L, Lends<'_, V::Called, V>>(source, steps, passed)
+}
