@@ -32,17 +32,17 @@ still-open false ending e is bad = refl
 -- ---- an accumulator
 
 module _ {T A O P K : Type 0} (folding : P → Folding T A O) (by : K → P) (acc : K → Option A) where
-  abbrev Takes : K → T → K → Type 0
+  abbrev pub Takes : K → T → K → Type 0
   Takes s y s' = (by s' ≡ by s) × FoldsOne (folding (by s)) (acc s) y (acc s')
 
-  abbrev Refuses : K → T → ℕ → K → Type 0
+  abbrev pub Refuses : K → T → ℕ → K → Type 0
   Refuses s y code s' = ⊤
 
-  record HasTaken (s : K) (a : A) (ys : List T) (s' : K) : Type 0 where
+  pub record HasTaken (s : K) (a : A) (ys : List T) (s' : K) : Type 0 where
     pub same : by s' ≡ by s
     pub is : acc s' ≡ Some (fold (folding (by s)).update a ys)
 
-  taken : (ys : List T) (s s' : K) (a : A) → acc s ≡ Some a → Leads Takes s ys s' → HasTaken s a ys s'
+  pub taken : (ys : List T) (s s' : K) (a : A) → acc s ≡ Some a → Leads Takes s ys s' → HasTaken s a ys s'
   taken [] s s' a start is = record { same = ap by is; is = ap acc is ∙ start }
   taken (y ∷ ys) s s' a start (m, one, rest) =
       let next : acc m ≡ Some ((folding (by s)).update a y) = subst (λ o. FoldsOne (folding (by s)) o y (acc m)) start one.1 in

@@ -3,6 +3,7 @@ mod Carrying
 mod Delivering
 mod Gathering
 mod Lending
+pub mod Listing
 pub mod OneByOne
 pub mod Searching
 mod Telling

@@ -1,3 +1,4 @@
+pub mod Listed
 pub mod Passing
 pub mod Ran
 pub mod Told

@@ -5,7 +5,8 @@
 //! - [`run_left_into`] and [`call_left_by_threads`] deliver what steps by position leave, in batches or call by call.
 //! - [`aggregate_steps_alone`], [`call_alone`], [`pass_alone`] and [`call_left_alone`] are the same on the caller's thread, and return.
 //! - What is called may be a closure ([`Tells`], [`Tries`]), an accumulator ([`Folded`]), or what keeps the first item
-//!   ([`KeepFirst`]). [`told_folded`], [`told_first`], [`told_found`] and [`told_not`] make a call's result of how the run ended.
+//!   ([`KeepFirst`]). [`told_folded`], [`told_list`], [`told_first`], [`told_found`] and [`told_not`] make a call's result of
+//!   how the run ended.
 //! - [`QueryFault`] says why there is no answer, [`ByThreads`] has the settings of a run by threads.
 //!
 //! `plinq_query` has the queries that users write.
@@ -21,6 +22,7 @@ mod gathers;
 mod keep_first;
 mod leaving;
 mod lends;
+mod lists;
 mod made;
 mod passes;
 mod passing;
@@ -36,6 +38,7 @@ pub use calling::{call_alone, call_by_threads};
 pub use folds::{Folded, Folds, told_folded};
 pub use keep_first::{First, KeepFirst};
 pub use leaving::{call_left_alone, call_left_by_threads, run_left_into};
+pub use lists::{empty_list, told_list};
 pub use passes::{Passed, Passes};
 pub use passing::{pass_alone, pass_by_threads};
 pub use query_fault::QueryFault;

@@ -4,6 +4,7 @@
 //!   threads.
 //! - [`Query::to_vec`], [`Query::count`], [`Query::aggregate`], [`Query::group_by`] and [`Query::top`] run it. The workers apply the
 //!   steps and fold what is made, in the order of the source.
+//! - [`Query::to_vec_and_ending`] has what came before a refusal as well.
 //! - [`Query::first`], [`Query::element_at`], [`Query::any`], [`Query::all`] and [`Query::contains`] leave the source once their
 //!   answer is known.
 //! - [`Query::take`], [`Query::skip`], [`Query::take_while`] and [`Query::skip_while`] go by an item's position, on the thread that
@@ -19,6 +20,7 @@ mod by_threads_calls;
 mod by_threads_runs;
 mod calling;
 mod count_of;
+mod ended_lists;
 mod merged;
 mod merged_alone;
 mod merged_by_threads;

@@ -225,3 +225,84 @@ fn settings_that_are_none_are_refused_before_anything_is_delivered(rt: HostRunti
     let none = begun_by(&rt, rt.alloc(), 4, 1);
     assert!(&rt; are_sizes(&none, &[], Ok(())));
 }
+
+/// The list of a source that refuses, but for its first item if that is skipped, with how it ended.
+fn listed<R: Clock + Threads + Wait + Sync>(
+    rt: &R,
+    alloc: Global,
+    option: MergeOption,
+    taken: u64,
+) -> Option<
+    (
+        Result<(Vec<i64>, Ending), QueryFault>,
+        Result<(Vec<i64>, Ending), QueryFault>,
+    ),
+> {
+    let all = from(refusing(alloc)?)
+        .as_parallel()
+        .with_merge(option)
+        .to_vec_and_ending(rt, alloc);
+    let left = from(refusing(alloc)?)
+        .as_parallel()
+        .with_merge(option)
+        .skip(1)
+        .take(taken)
+        .to_vec_and_ending(rt, alloc);
+    Some((all, left))
+}
+
+/// The same on one thread.
+fn listed_alone(
+    alloc: Global,
+    taken: u64,
+) -> Option<
+    (
+        Result<(Vec<i64>, Ending), QueryFault>,
+        Result<(Vec<i64>, Ending), QueryFault>,
+    ),
+> {
+    let all = from(refusing(alloc)?).to_vec_and_ending(alloc);
+    let left = from(refusing(alloc)?)
+        .skip(1)
+        .take(taken)
+        .to_vec_and_ending(alloc);
+    Some((all, left))
+}
+
+fn is_listed(
+    found: &Result<(Vec<i64>, Ending), QueryFault>,
+    wanted: &[i64],
+    ended: Ending,
+) -> bool {
+    match found {
+        Ok((items, ending)) => items.as_slice() == wanted && *ending == ended,
+        Err(_) => false,
+    }
+}
+
+#[test]
+fn a_list_has_what_came_before_a_refusal_and_how_it_ended(rt: HostRuntime) {
+    let alloc = rt.alloc();
+    let refused = Ending::Refused(7);
+    for taken in [1, 2] {
+        let ended = if taken == 1 { Ending::End } else { refused };
+        match listed(&rt, alloc, MergeOption::Default, taken) {
+            Some((all, left)) => {
+                assert!(&rt; is_listed(&all, &[4, 5], refused) && is_listed(&left, &[5], ended));
+            }
+            None => panic!(rt; "no source"),
+        }
+        match listed_alone(alloc, taken) {
+            Some((all, left)) => {
+                assert!(&rt; is_listed(&all, &[4, 5], refused) && is_listed(&left, &[5], ended));
+            }
+            None => panic!(rt; "no source"),
+        }
+    }
+    match listed(&rt, alloc, MergeOption::FullyBuffered, 2) {
+        Some((all, left)) => {
+            assert!(&rt; is_listed(&all, &[], refused) && is_listed(&left, &[], refused));
+        }
+        None => panic!(rt; "no source"),
+    }
+}
