@@ -21,7 +21,7 @@ use std::sync::Wait;
 use std::thread::Threads;
 use std::time::Clock;
 
-/// Calls with what steps make of a source's items, in any way of calling, by threads.
+/// Calls what is lent with each item that the steps make of a source's. The workers apply the steps, this thread calls.
 pub fn call_by_threads<Src, S, V, R>(
     source: Src,
     steps: S,

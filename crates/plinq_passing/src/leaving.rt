@@ -66,8 +66,8 @@ fn finish<K: Sink<Item: Copy>>(
     }
 }
 
-/// Delivers what steps by position leave of what is made of a source's items to a sink, in batches, by threads. The source is left
-/// once no more can be made.
+/// Delivers to a sink, in batches, what steps by position leave of what the steps before them make, by threads. The source is left once
+/// no more can be made.
 pub fn run_left_into<Src, S, L, K, R>(
     source: Src,
     steps: S,
@@ -103,6 +103,7 @@ where
         sink,
     };
     let outcome = run_gathered(source, steps, later, settings, rt, alloc, &mut gathered);
+    // (dropped part by part: of what is dropped whole it isn't known what it lent)
     let Gathered {
         made: _made,
         sink: _sink,
@@ -188,6 +189,7 @@ where
         over: false,
     };
     let outcome = visit_lent::<Src, S, L, V, R>(source, steps, settings, rt, alloc, &mut passed);
+    // (part by part, as above)
     let Passed {
         later: _later,
         to: _to,
@@ -233,7 +235,8 @@ where
     )
 }
 
-/// Calls with what steps by position leave of what is made of a source's items, in any way of calling, by threads.
+/// Calls what is lent with each item that steps by position leave of what the steps before them make. The workers apply the steps, this
+/// thread calls.
 pub fn call_left_by_threads<Src, S, L, V, R>(
     source: Src,
     steps: S,
@@ -333,6 +336,7 @@ where
         over: false,
     };
     let outcome = call_lent::<Src, S, L, V>(source, steps, &mut passed);
+    // (part by part, as above)
     let Passed {
         later: _later,
         to: _to,
