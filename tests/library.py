@@ -1,6 +1,6 @@
 #!/usr/bin/env python3
 """Takes the blocks of code out of docs/LIBRARY.md and tries them, in a repository of its own that has only the crates which the
-page names, and imports each name of the page's tables through the prelude. Typed queries come from `plinq_query`. Nothing is proved.
+page names, and imports each name of the page's tables through the prelude. Nothing is proved.
 
     python3 tests/library.py
 """
@@ -19,7 +19,6 @@ ghost use Rattle.std.specs.Prelude.{◌≡◌, int_lt, nat_le, pos, Ok};
 use anyhow::Result;
 use plinq_prelude::*;
 use plinq_prelude::{NAMES};
-use plinq_query::from;
 use std::alloc::Global;
 use std::sync::Wait;
 use std::thread::Threads;
@@ -125,7 +124,6 @@ def main():
         lines = [it.split(":", 1) for it in file.read().splitlines() if it and not it.startswith("#")]
     crates = {name: below.split() for name, below in lines}
     line = re.search(r"^    my_program: (.*)$", page, flags=re.M).group(1)
-    line += " plinq_query"
     below = needed(line.split(), crates)
     named = set(re.findall(r"plinq_\w+", page))
     tests.check("the page names each crate that its line needs", len(below) > 10 and below <= named, sorted(below - named))

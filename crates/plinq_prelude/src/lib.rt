@@ -3,8 +3,8 @@
 //!     use plinq_prelude::*;
 //!
 //! All is as it is in the crate that has it; `specs/Words.antt` has the words that contracts cite. Groups have a crate of
-//! their own, `plinq_groups`. `Count` is `plinq_aggregate::Count`, since a name that differs from `count` by its case alone is
-//! refused.
+//! their own, `plinq_groups`; typed queries begin with `from`, and their types are in `plinq_query`. `Count` is
+//! `plinq_aggregate::Count`, since a name that differs from `count` by its case alone is refused.
 #![tactic(auto)]
 
 pub use plinq_aggregate::{Aggregator, GrowingAggregator, Max, Min, Sum};
@@ -17,6 +17,7 @@ pub use plinq_enumerator::Growth;
 pub use plinq_lambda::{ExpandFault, Formula, Lambda, SharedLambda};
 pub use plinq_merge::{Cancel, CancelAfter, CancelFlag, Sink};
 pub use plinq_ops::{BuildFault, MergeOption, Op, Query, sequential};
+pub use plinq_query::{QueryFault, from};
 pub use plinq_run::{
     AggregateFault, OpenGate, Report, RunFault, TimedGate, aggregate, run, run_with,
 };
