@@ -474,6 +474,30 @@ def hung_worker(tests, folder):
         tests.check("it is said when the wait begins, and when it is given up", is_so, said)
 
 
+def unstarted_worker(tests):
+    """A worker of a local cluster hangs before it is there, of which Dask says no more than that. As many workers as there are start
+    side by side, so more of them may take longer."""
+    from plinq_shards import trouble, workers
+
+    given = []
+
+    def hangs(**settings):
+        given.append(settings["death_timeout"])
+        raise AssertionError("Status.running")
+
+    before, distributed.LocalCluster = distributed.LocalCluster, hangs
+    said = []
+    for patience in (1, 60):
+        try:
+            with workers.local(3, patience):
+                said.append("there is a cluster")
+        except trouble.Trouble as why:
+            said.append(why.line)
+    distributed.LocalCluster = before
+    wanted = "plinq-cluster: a cluster can't be started on this machine: a worker doesn't start"
+    tests.check("a worker hangs as it starts", (said, given) == ([wanted] * 2, [36, 66]), (said, given))
+
+
 def few_shards(tests, folder):
     """What ends early asks for few shards."""
     text = text_of({"range": [0, 2**40]}, ["filter", "even"], ["take", 10])
@@ -685,6 +709,7 @@ def main():
         if distributed is None:
             print("left out: all that wants a cluster: Dask isn't installed (apt-get install python3-distributed)")
             tests.end()
+        unstarted_worker(tests)
         with InProcess() as local:
             calls(tests, local)
             unwanted(tests, local)

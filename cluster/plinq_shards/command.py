@@ -39,7 +39,7 @@ def answered(args, errors):
     from .program import STATUSES
 
     workers.be_quiet()
-    there = workers.remote(args.scheduler) if args.scheduler else workers.local(args.local or os.cpu_count())
+    there = workers.remote(args.scheduler) if args.scheduler else workers.local(args.local or os.cpu_count(), args.patience)
     with there as client:
         progress = Progress(errors, client.dashboard_link if workers.has_dashboard() else None)
         cluster = Cluster(client, f"scheduler {client.scheduler.address}", name, asked.degree, progress, args.patience)

@@ -17,6 +17,8 @@ from .trouble import own, reason
 # How many seconds a scheduler may take to answer, and then to have its first worker.
 PATIENCE = 10
 PATIENCE_FOR_WORKERS = 30
+# How many seconds each worker of a local cluster may take to start beside the others, on a busy machine.
+SECONDS_TO_START = 2
 
 
 def be_quiet():
@@ -56,8 +58,8 @@ def own_keys():
         raise own(f"{error}: --local wants Python's cryptography (apt-get install python3-cryptography)") from None
 
 
-def started(count, security, folder):
-    """A cluster of so many workers of one thread each on this machine."""
+def started(count, security, folder, patience):
+    """A cluster of so many workers of one thread each on this machine. One that hangs as it starts is given up as any other."""
     try:
         with without_interrupts():
             return distributed.LocalCluster(
@@ -69,18 +71,22 @@ def started(count, security, folder):
                 worker_dashboard_address=HERE,
                 silence_logs=logging.CRITICAL,
                 local_directory=folder,
+                death_timeout=max(patience, PATIENCE_FOR_WORKERS) + count * SECONDS_TO_START,
             )
+    except (AssertionError, TimeoutError):
+        # (Dask asserts that its workers run, and says no more of one that doesn't)
+        raise own("a cluster can't be started on this machine: a worker doesn't start") from None
     except Exception as error:
         # (what Dask raises after a system call that failed is of any type)
         raise own(f"a cluster can't be started on this machine: {reason(error)}") from None
 
 
 @contextlib.contextmanager
-def local(count):
+def local(count, patience=0):
     """Such a cluster, for as long as it is wanted."""
     security = own_keys()
     with tempfile.TemporaryDirectory(prefix="plinq-cluster-", ignore_cleanup_errors=True) as folder:
-        cluster = started(count, security, folder)
+        cluster = started(count, security, folder, patience)
         try:
             with distributed.Client(cluster) as client:
                 yield client
