@@ -498,6 +498,23 @@ def unstarted_worker(tests):
     tests.check("a worker hangs as it starts", (said, given) == ([wanted] * 2, [36, 66]), (said, given))
 
 
+def early_signals(tests, folder):
+    """Signals while a local cluster starts, and soon afterwards: no process and no file is left."""
+    own = os.path.join(folder, "temporary")
+    os.makedirs(own)
+    for number in (signal.SIGTERM, signal.SIGINT, signal.SIGHUP):
+        for seconds in (0, 0.3, 0.6, 0.9, 1.5):
+            work = text_of({"range": [0, 2**36]}, ["filter", "below", 0])
+            child = begun(["--local", "3", "--program", PROGRAM], work, env=os.environ | {"TMPDIR": own})
+            wait_until(lambda: os.listdir(own), "its folder")
+            time.sleep(seconds)
+            child.send_signal(number)
+            seen = ended(child)
+            # (a process that is left holds standard error, which was read to its end)
+            seen = (seen.status, seen.errors, os.listdir(own))
+            tests.check(f"{number.name} {seconds} s after the start of a local cluster", seen == (-number, b"", []), seen)
+
+
 def few_shards(tests, folder):
     """What ends early asks for few shards."""
     text = text_of({"range": [0, 2**40]}, ["filter", "even"], ["take", 10])
@@ -684,7 +701,7 @@ def help_and_progress(tests, folder):
 
 def processes(tests, folder):
     """What wants a cluster of processes."""
-    for it in (lost_worker, last_worker, hung_worker, lost_answer, deadly_shard, few_shards, other_programs, installed_programs, other_users, help_and_progress):
+    for it in (lost_worker, last_worker, hung_worker, early_signals, lost_answer, deadly_shard, few_shards, other_programs, installed_programs, other_users, help_and_progress):
         it(tests, folder)
     with Machines(folder) as machines:
         for name in ("e", "f"):

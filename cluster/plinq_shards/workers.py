@@ -2,6 +2,7 @@
 import contextlib
 import importlib.util
 import logging
+import multiprocessing
 import os
 import signal
 import tempfile
@@ -81,18 +82,31 @@ def started(count, security, folder, patience):
         raise own(f"a cluster can't be started on this machine: {reason(error)}") from None
 
 
+def end_processes():
+    """Ends the workers that are left, as those of a cluster that was starting when a signal came: they would write into their folder
+    again. What watches them is ended first, since it would start others."""
+    with contextlib.suppress(Exception):
+        distributed.deploy.spec.close_clusters()
+    for it in multiprocessing.active_children():
+        it.kill()
+        it.join(SECONDS_TO_START)
+
+
 @contextlib.contextmanager
 def local(count, patience=0):
     """Such a cluster, for as long as it is wanted."""
     security = own_keys()
     with tempfile.TemporaryDirectory(prefix="plinq-cluster-", ignore_cleanup_errors=True) as folder:
-        cluster = started(count, security, folder, patience)
         try:
-            with distributed.Client(cluster) as client:
-                yield client
+            cluster = started(count, security, folder, patience)
+            try:
+                with distributed.Client(cluster) as client:
+                    yield client
+            finally:
+                with contextlib.suppress(Exception):
+                    cluster.close(timeout=10)
         finally:
-            with contextlib.suppress(Exception):
-                cluster.close(timeout=10)
+            end_processes()
 
 
 def missing_key():
