@@ -167,10 +167,10 @@ def counted(tests, folder):
             tests.check(f"{shell}: {name}", (ran.returncode, ran.stdout, ran.stderr) == (0, f"{wanted}\n", ""), (ran.stdout, ran.stderr))
             words = ["run", "--merge", "auto", "--workers", "auto", "a b", "", "--merge=auto", "auto"]
             number = [str(wanted)] if wanted else ["auto"]
-            for given, told in ((words, [*words[:4], *number, *words[5:]]), (["--workers=auto"], [f"--workers={number[0]}"]), (["--workers", "auto", "--workers", "3"], None)):
+            for given, told in ((words, [*words[:4], *number, *words[5:]]), (["--workers=auto"], [f"--workers={number[0]}"]), (["--workers", "auto", "--workers", "3"], ["--workers", *number, "--workers", "3"])):
                 line = f'set -eu\n{script}\nstart_program /bin/sh -c \'for it in "$@"; do echo "$it"; done\' sh "$@"'
                 ran = subprocess.run([f"/bin/{shell}", "-c", line, "plinq", *given], env={"PATH": ""}, capture_output=True, text=True, timeout=HANGS)
-                tests.check(f"{shell}: {name}: {given}", (ran.returncode, ran.stdout.splitlines(), ran.stderr) == (0, told or given, ""), (ran.stdout, ran.stderr))
+                tests.check(f"{shell}: {name}: {given}", (ran.returncode, ran.stdout.splitlines(), ran.stderr) == (0, told, ""), (ran.stdout, ran.stderr))
 
 
 def quota_group():
@@ -221,7 +221,7 @@ def as_many_as_cores(tests):
         is_so = seen.status == 0 and number is not None and (int(number[1]) == count if count == 1 else 1 <= int(number[1]) <= count)
         tests.check(f"on {count} cores", is_so, seen)
     # (a start script counts before the program does)
-    for words, wanted in (("--workers auto --merge some", b"'some'"), ("--merge some --workers=auto", b"'some'"), ("--workers auto --bogus", b"'--bogus'")):
+    for words, wanted in (("--workers auto --merge some", b"'some'"), ("--merge some --workers=auto", b"'some'"), ("--workers auto --bogus", b"'--bogus'"), ("--workers auto --workers 3", b"multiple times")):
         seen = as_shell(f"$0 run {words} < add-one.json")
         tests.check(f"what is wrong beside it is said: {words}", seen.status == 2 and wanted in seen.errors and b"'auto'" not in seen.errors.split(b"[")[0], seen)
     text = b'{"version":1,"source":{"range":[1,100]},"query":[["as_ordered"],["with_degree",2]]}'

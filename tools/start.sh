@@ -6,7 +6,7 @@ start_program() {
     program=$1
     shift
     workers_of "$@"
-    if [ "$workers" = auto ]; then
+    if [ "$asks_for_cores" = yes ]; then
         count_cores
         before= left=$#
         while [ "$cores" != 0 ] && [ "$left" != 0 ]; do
@@ -26,15 +26,18 @@ start_program() {
     exec "$program" "$@"
 }
 
-# The last word or number that the words have for `--workers`.
+# The last word or number that the words have for `--workers`, and whether one of them is `auto`.
 workers_of() {
-    workers=4 before=
+    workers=4 before= asks_for_cores=no
     for word in "$@"; do
-        [ "$before" != --workers ] || workers=$word
-        before=$word
-        case $word in
-            --workers=*) workers=${word#*=} ;;
+        case $before:$word in
+            --workers:*) workers=$word ;;
+            *:--workers=*) workers=${word#*=} ;;
         esac
+        case $before:$word in
+            --workers:auto | *:--workers=auto) asks_for_cores=yes ;;
+        esac
+        before=$word
     done
 }
 
