@@ -502,7 +502,7 @@ def early_signals(tests, folder):
     """Signals while a local cluster starts, and soon afterwards: no process and no file is left."""
     own = os.path.join(folder, "temporary")
     os.makedirs(own)
-    for number in (signal.SIGTERM, signal.SIGINT, signal.SIGHUP):
+    for number in (signal.SIGTERM, signal.SIGINT, signal.SIGHUP, signal.SIGQUIT):
         for seconds in (0, 0.3, 0.6, 0.9, 1.5):
             work = text_of({"range": [0, 2**36]}, ["filter", "below", 0])
             child = begun(["--local", "3", "--program", PROGRAM], work, env=os.environ | {"TMPDIR": own})
