@@ -14,11 +14,11 @@ def own(line):
     return Trouble(f"plinq-cluster: {line}")
 
 
-def reason(error):
-    """Why there was an error: what the system said, if that is what it came from, else what the error says."""
+def reason(error, unsaid=None):
+    """Why there was an error: what the system said, if that is what it came from, else these words, or what the error says."""
     at = error
     while at is not None:
         if isinstance(at, OSError) and at.strerror:
             return at.strerror
         at = at.__cause__ or at.__context__
-    return " ".join(str(error).split()) or type(error).__name__
+    return unsaid or " ".join(str(error).split()) or type(error).__name__

@@ -74,12 +74,10 @@ def started(count, security, folder, patience):
                 local_directory=folder,
                 death_timeout=max(patience, PATIENCE_FOR_WORKERS) + count * SECONDS_TO_START,
             )
-    except (AssertionError, TimeoutError):
-        # (Dask asserts that its workers run, and says no more of one that doesn't)
-        raise own("a cluster can't be started on this machine: a worker doesn't start") from None
     except Exception as error:
-        # (what Dask raises after a system call that failed is of any type)
-        raise own(f"a cluster can't be started on this machine: {reason(error)}") from None
+        # (what Dask raises after a system call that failed is of any type; of a worker that doesn't start it asserts that it runs)
+        unsaid = "a worker doesn't start" if isinstance(error, (AssertionError, TimeoutError)) else None
+        raise own(f"a cluster can't be started on this machine: {reason(error, unsaid)}") from None
 
 
 def end_processes():
