@@ -683,6 +683,12 @@ def help_and_progress(tests, folder):
         seen = subprocess.run(["sh", "-c", '"$0" "$1" >/dev/full', COMMAND, word], capture_output=True, timeout=HANGS)
         is_said = (seen.returncode, seen.stderr) == (5, b"plinq-cluster: No space left on device\n")
         tests.check(f"{word} on a full disk", is_said, seen)
+    seen = command(["--shards", "0"], b"")
+    is_said = seen.errors.startswith(b"usage: plinq-cluster ") and b"\nplinq-cluster: error: argument --shards: " in seen.errors
+    tests.check("a mistake of the words", seen.status == 2 and seen.output == b"" and is_said, seen)
+    for stream in ("2>/dev/full", "2>&-"):
+        seen = subprocess.run(["sh", "-c", f'"$0" --shards 0 {stream}', COMMAND], capture_output=True, timeout=HANGS)
+        tests.check(f"a mistake of the words: {stream}", (seen.returncode, seen.stdout, seen.stderr) == (2, b"", b""), seen)
     seen = command(["--help"], b"")
     tests.check("help", seen.status == 0 and b"--scheduler HOST:PORT" in seen.output and seen.errors == b"", seen)
     shown = seen.output.decode()
