@@ -233,6 +233,16 @@ def calls(tests, local):
     except trouble.Trouble as why:
         said = why.line, why.status
     tests.check("a call from Python: a client that is closed", said == ("plinq-cluster: the client is closed", 5), said)
+    # (some shards are asked for before it is closed, and others would be after it)
+    leaves = distributed.Client(local.cluster, set_as_default=False)
+    threading.Timer(0.3, leaves.close).start()
+    long = {"version": 1, "source": {"range": [0, 4_000_000_000]}, "query": [["filter", "even"]], "aggregate": "sum"}
+    try:
+        said = plinq_shards.run(leaves, long, PROGRAM, shards=6_400)
+    except trouble.Trouble as why:
+        said = why.line, why.status
+    gone = f"plinq-cluster: scheduler {local.client.scheduler.address}: gone"
+    tests.check("a call from Python: a client that is closed meanwhile", said == (gone, 5), said)
     seen = asyncio.run(by_coroutines(local))
     waits = "plinq-cluster: the client's own loop would wait for itself: call run by asyncio.to_thread"
     tests.check("a call from Python: an asynchronous client", seen == (waits, plinq_shards.Answer([1, 2], "end")), seen)

@@ -36,8 +36,7 @@ class Asked:
 
     def summary(self):
         """The ending and the number of items. The items stay on their worker."""
-        small = self.cluster.client.submit(program.ending_of, self.future, pure=False, retries=RETRIES)
-        return self.cluster.result(self.shard, small)
+        return self.cluster.result(self.shard, self.cluster.submit(program.ending_of, self.future))
 
     def count(self):
         """How many items a shard has, of which a count was asked for, and its ending."""
@@ -106,7 +105,16 @@ class Cluster:
             # (what is left is asked for by one step more)
             "most": MOST_BYTES if len(steps) < program.MOST_STEPS else float("inf"),
         }
-        return Asked(self, shard, self.client.submit(program.answer, question, pure=False, retries=RETRIES))
+        return Asked(self, shard, self.submit(program.answer, question))
+
+    def submit(self, call, words):
+        """Has a worker call this, unless the client was closed meanwhile, for which Dask has no exception of its own."""
+        try:
+            return self.client.submit(call, words, pure=False, retries=RETRIES)
+        except Exception:
+            if self.client.status in ("closing", "closed"):
+                raise own(f"{self.where}: gone") from None
+            raise
 
     def in_order(self, shards, question):
         """Each shard in order with what was asked of it, some ahead for each worker; a shard may need no question."""
