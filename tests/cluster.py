@@ -330,6 +330,10 @@ def refused(tests):
     tests.check("refused: a closed input", seen == right and seen.status == 5, f"wanted {right}; seen {seen}")
     seen = command([*words, "--text", "/nowhere"], text_of({"list": [1]}))
     tests.check("refused: a text that isn't there", seen == Outcome(5, b"", b"plinq-cluster: /nowhere: No such file or directory\n"), seen)
+    for name, shown in ((b"/nowhere\n2", rb"/nowhere\n2"), (b"/nowhere\xff", rb"/nowhere\udcff")):
+        seen = command(["--local", "1", "--text", os.fsdecode(name)], text_of({"list": []}))
+        wanted = Outcome(5, b"", b"plinq-cluster: " + shown + b": No such file or directory\n")
+        tests.check(f"refused: a text that isn't there, {shown}", seen == wanted, seen)
     for empty in ("", " "):
         seen = command(["--scheduler", empty], text_of({"list": [1]}))
         tests.check(f"refused: the scheduler {empty!r}", seen.status == 2 and b"invalid HOST:PORT value" in seen.errors, seen)

@@ -10,8 +10,8 @@ class Trouble(Exception):
 
 
 def own(line):
-    """Trouble of this command's own, in the place of a line that `plinq` printed."""
-    return Trouble(f"plinq-cluster: {line}")
+    """Trouble of this command's own, in the place of a line that `plinq` printed. It is one line, also if a name in it has more."""
+    return Trouble("plinq-cluster: " + line.replace("\n", r"\n"))
 
 
 def reason(error, unsaid=None):
