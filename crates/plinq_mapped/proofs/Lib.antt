@@ -1,2 +1,2 @@
-mod MadeOf
+pub mod MadeOf
 mod PartLists

@@ -1,0 +1,3 @@
+mod Delivered
+mod Reporting
+mod Summed
