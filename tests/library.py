@@ -34,7 +34,8 @@ fn main(rt: HostRuntime) -> Result<()> {
     let numbers = numbers(&rt, rt.alloc())?;
     let records = records(&rt, rt.alloc())?;
     let pairs = pairs(&rt, rt.alloc())?;
-    println!(rt; "{numbers} {records} {pairs}")?;
+    let kept = kept(&rt, rt.alloc())?;
+    println!(rt; "{numbers} {records} {pairs} {kept}")?;
     Ok(())
 }
 """
@@ -54,6 +55,13 @@ fn pairs<R: Clock + Threads + Wait + Sync>(rt: &R, alloc: Global) -> Result<usiz
     let numbers = [1i64, 2, 4];
 BLOCK
     Ok(big.len())
+}
+""",
+    "let flag": """
+fn kept<R: Clock + Threads + Wait + Sync>(rt: &R, alloc: Global) -> Result<u64> {
+    let numbers = [1i64, 2, 4, 3];
+BLOCK
+    Ok(kept)
 }
 """,
     "let chain": """
@@ -146,7 +154,7 @@ def main():
             ["rt", "try"], cwd=os.path.join(top, "crates", "my_program"), stdin=subprocess.DEVNULL, capture_output=True, timeout=3 * HANGS
         )
         said = (tried.stdout + tried.stderr).decode(errors="replace")
-        tests.check("the page's blocks compile and answer", tried.returncode == 0 and tried.stdout.startswith(b"2 1 1\n"), said[-1500:])
+        tests.check("the page's blocks compile and answer", tried.returncode == 0 and tried.stdout.startswith(b"2 1 1 2\n"), said[-1500:])
     tests.end()
 
 

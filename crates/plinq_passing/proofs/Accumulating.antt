@@ -63,22 +63,22 @@ module _ {T A O P K : Type 0} (folding : P → Folding T A O) (by : K → P) (ac
         subst (λ p. MatchResult (told_folded (folding p) (Ok tt) (acc s')) Value Fails) (sym has.same)
         (subst (λ o. MatchResult (told_folded (folding (by s)) (Ok tt) o) Value Fails) (sym has.is) (refl, ends))
 
-    pub folded-told : (workers : ℕ) (growth : Option (ℕ × ℕ × ℕ)) (r : Result ⊤ QueryFault) (s' : K)
-        → Ran Takes Refuses workers growth ys (ended_unless decided t.ending) s r s'
-        → MatchResult (told_folded (folding (by s')) r (acc s')) Value (SearchFails (decided ≡ false) workers growth t)
-    folded-told workers growth (Ok all) s' is = folded-well s' _ is.0 (ends-unless decided t.ending End is.1)
-    folded-told workers growth (Err Degree) s' is = is.1
-    folded-told workers growth (Err (Growth fault)) s' is = is.1
-    folded-told workers growth (Err (Ended e)) s' is =
+    pub folded-told : (Stops : Type 0) (workers : ℕ) (growth : Option (ℕ × ℕ × ℕ)) (r : Result ⊤ QueryFault) (s' : K)
+        → Ran Takes Refuses Stops workers growth ys (ended_unless decided t.ending) s r s'
+        → MatchResult (told_folded (folding (by s')) r (acc s')) Value (SearchFails (decided ≡ false) Stops workers growth t)
+    folded-told Stops workers growth (Ok all) s' is = folded-well s' _ is.0 (ends-unless decided t.ending End is.1)
+    folded-told Stops workers growth (Err Degree) s' is = is.1
+    folded-told Stops workers growth (Err (Growth fault)) s' is = is.1
+    folded-told Stops workers growth (Err (Ended e)) s' is =
         let no = still-open decided t.ending e is.1 is.2 in (ends-unless decided t.ending e is.1 no, is.2, no)
-    folded-told workers growth (Err (Run Memory)) s' is = refl
-    folded-told workers growth (Err (Run (Sink code))) s' is = refl
-    folded-told workers growth (Err (Run Tickets)) s' is = refl
-    folded-told workers growth (Err (Run Thread)) s' is = refl
-    folded-told workers growth (Err (Run Incomplete)) s' is = refl
-    folded-told workers growth (Err (Run Cancelled)) s' is = absurd is
+    folded-told Stops workers growth (Err (Run Memory)) s' is = tt
+    folded-told Stops workers growth (Err (Run (Sink code))) s' is = tt
+    folded-told Stops workers growth (Err (Run Tickets)) s' is = tt
+    folded-told Stops workers growth (Err (Run Thread)) s' is = tt
+    folded-told Stops workers growth (Err (Run Incomplete)) s' is = tt
+    folded-told Stops workers growth (Err (Run Cancelled)) s' is = is.0
 
-    pub folded-alone : (r : Result ⊤ QueryFault) (s' : K) → IfErr r EndedOrRefused → Ran Takes Refuses 1 None ys (ended_unless decided t.ending) s r s'
+    pub folded-alone : (r : Result ⊤ QueryFault) (s' : K) → IfErr r EndedOrRefused → Ran Takes Refuses ⊥ 1 None ys (ended_unless decided t.ending) s r s'
         → MatchResult (told_folded (folding (by s')) r (acc s')) Value (FailsAlone (decided ≡ false) t)
     folded-alone (Ok all) s' alone is = folded-well s' _ is.0 (ends-unless decided t.ending End is.1)
     folded-alone (Err Degree) s' alone is = absurd alone
@@ -121,22 +121,22 @@ module _ {B : Type 0} where
     found : (o : Option B) (y : B) → o ≡ Some y → first_of ys ≡ Some y → (o ≡ first_of ys) × (o ≡ None → decided ≡ false → t.ending ≡ Some End)
     found o y is first = (is ∙ sym first, λ none. absurd (let bad : ◌≡◌ {A = Option B} (Some y) None = sym is ∙ none in cc))
 
-    pub first-passed : (workers : ℕ) (growth : Option (ℕ × ℕ × ℕ)) (r : Result ⊤ QueryFault) (s' : KeepFirst B)
-        → Ran TakesNone KeepsOne workers growth ys (ended_unless decided t.ending) s r s'
+    pub first-passed : (Stops : Type 0) (workers : ℕ) (growth : Option (ℕ × ℕ × ℕ)) (r : Result ⊤ QueryFault) (s' : KeepFirst B)
+        → Ran TakesNone KeepsOne Stops workers growth ys (ended_unless decided t.ending) s r s'
         → MatchResult (told_first s'.item r) (λ o. (o ≡ first_of ys) × (o ≡ None → decided ≡ false → t.ending ≡ Some End))
-        (SearchFails ((first_of ys ≡ None) × (decided ≡ false)) workers growth t)
-    first-passed workers growth (Ok all) s' is = (sym (no-first ys s s' is.0), λ none. ends-unless decided t.ending End is.1)
-    first-passed workers growth (Err Degree) s' is = is.1
-    first-passed workers growth (Err (Growth fault)) s' is = is.1
-    first-passed workers growth (Err (Ended e)) s' is =
+        (SearchFails ((first_of ys ≡ None) × (decided ≡ false)) Stops workers growth t)
+    first-passed Stops workers growth (Ok all) s' is = (sym (no-first ys s s' is.0), λ none. ends-unless decided t.ending End is.1)
+    first-passed Stops workers growth (Err Degree) s' is = is.1
+    first-passed Stops workers growth (Err (Growth fault)) s' is = is.1
+    first-passed Stops workers growth (Err (Ended e)) s' is =
         let no = still-open decided t.ending e is.1 is.2 in
         (ends-unless decided t.ending e is.1 no, is.2, (no-first ys s s' is.0, no))
-    first-passed workers growth (Err (Run Memory)) s' is = refl
-    first-passed workers growth (Err (Run (Sink code))) s' is = let one = the-first ys s s' code is in found s'.item one.0 one.1 one.2
-    first-passed workers growth (Err (Run Tickets)) s' is = refl
-    first-passed workers growth (Err (Run Thread)) s' is = refl
-    first-passed workers growth (Err (Run Incomplete)) s' is = refl
-    first-passed workers growth (Err (Run Cancelled)) s' is = absurd is
+    first-passed Stops workers growth (Err (Run Memory)) s' is = tt
+    first-passed Stops workers growth (Err (Run (Sink code))) s' is = let one = the-first ys s s' code is in found s'.item one.0 one.1 one.2
+    first-passed Stops workers growth (Err (Run Tickets)) s' is = tt
+    first-passed Stops workers growth (Err (Run Thread)) s' is = tt
+    first-passed Stops workers growth (Err (Run Incomplete)) s' is = tt
+    first-passed Stops workers growth (Err (Run Cancelled)) s' is = is.0
 
 -- ---- the one at a position
 
@@ -152,11 +152,11 @@ module _ {B : Type 0} where
         decided = λ xs. refl;
       }
 
-  pub first-past : {X : Type 0} (t : Trace X) (o : Option B) (workers : ℕ) (growth : Option (ℕ × ℕ × ℕ)) (r : Result (Option B) QueryFault)
-      → MatchResult r (λ p. (p ≡ o) × (p ≡ None → EndsUnless false t)) (SearchFails ((o ≡ None) × (false ≡ false)) workers growth t)
-      → MatchResult r (λ p. (p ≡ o) × (p ≡ None → t.ending ≡ Some End)) (SearchFails (o ≡ None) workers growth t)
-  first-past t o workers growth (Ok p) told = (told.0, λ none. told.1 none refl)
-  first-past t o workers growth (Err Degree) told = told
-  first-past t o workers growth (Err (Growth fault)) told = told
-  first-past t o workers growth (Err (Ended e)) told = (told.0, told.1, told.2.0)
-  first-past t o workers growth (Err (Run fault)) told = told
+  pub first-past : {X : Type 0} (t : Trace X) (o : Option B) (Stops : Type 0) (workers : ℕ) (growth : Option (ℕ × ℕ × ℕ)) (r : Result (Option B) QueryFault)
+      → MatchResult r (λ p. (p ≡ o) × (p ≡ None → EndsUnless false t)) (SearchFails ((o ≡ None) × (false ≡ false)) Stops workers growth t)
+      → MatchResult r (λ p. (p ≡ o) × (p ≡ None → t.ending ≡ Some End)) (SearchFails (o ≡ None) Stops workers growth t)
+  first-past t o Stops workers growth (Ok p) told = (told.0, λ none. told.1 none refl)
+  first-past t o Stops workers growth (Err Degree) told = told
+  first-past t o Stops workers growth (Err (Growth fault)) told = told
+  first-past t o Stops workers growth (Err (Ended e)) told = (told.0, told.1, told.2.0)
+  first-past t o Stops workers growth (Err (Run fault)) told = told

@@ -122,10 +122,11 @@ module _ {K B : Type 0} (takes : K → B → K → Type 0) (refuses : K → B �
         (cut-after takes refuses s.to (cons_option one.0.made []) (on.rest (sent ++ x ∷ rest)) (Refusal code) n.to t.to
         (leads-one one.0.made s.to n.to one.0.passed) after)
 
-    module _ (workers : ℕ) (growth : Option (ℕ × ℕ × ℕ)) (xs : List A) (ending : Option Ending) (s t : Passed L K) (g : List A → List B) (d : List A → Bool)
+    module _ (Stops : Type 0) (workers : ℕ) (growth : Option (ℕ × ℕ × ℕ)) (xs : List A) (ending : Option Ending) (s t : Passed L K) (g : List A
+        → List B) (d : List A → Bool)
         (more : ended s.later ≡ false) (means : Means s.later g d) where
       abbrev Went : Result ⊤ QueryFault → Type 0
-      Went r = Ran takes refuses workers growth (g xs) (ended_unless (d xs) ending) s.to r t.to
+      Went r = Ran takes refuses Stops workers growth (g xs) (ended_unless (d xs) ending) s.to r t.to
 
       stopped : (code : ℕ) (over : Bool) → t.over ≡ over → RefusesNext Takes Refuses s xs code t → Went (told_over (Err (Run (Sink code))) over)
       stopped code true over (sent, x, rest, m, parts, leads, last) =
@@ -141,7 +142,7 @@ module _ {K B : Type 0} (takes : K → B → K → Type 0) (refuses : K → B �
           subst (λ zs. TakesBeginning takes s.to (g zs) t.to) (sym parts) (passed-some sent rest s t g d more means leads)
 
       -- how a run into steps by position went
-      pub passed-ran : (r : Result ⊤ QueryFault) → Ran Takes Refuses workers growth xs ending s r t → Went (told_over r t.over)
+      pub passed-ran : (r : Result ⊤ QueryFault) → Ran Takes Refuses Stops workers growth xs ending s r t → Went (told_over r t.over)
       passed-ran (Ok all) ran =
           let came = passed-all xs s t g d more means ran.0 in (came.leads, ap (λ is. ended_unless is ending) came.is ∙ ran.1)
       passed-ran (Err Degree) ran = (ap (λ p. p.to) ran.0, ran.1)
@@ -153,10 +154,10 @@ module _ {K B : Type 0} (takes : K → B → K → Type 0) (refuses : K → B �
       passed-ran (Err (Run Tickets)) ran = some-came ran
       passed-ran (Err (Run Thread)) ran = some-came ran
       passed-ran (Err (Run Incomplete)) ran = some-came ran
-      passed-ran (Err (Run Cancelled)) ran = absurd ran
+      passed-ran (Err (Run Cancelled)) ran = (ran.0, some-came ran.1)
 
       -- the same of the items of batches
       pub passed-batches : (r : Result ⊤ QueryFault)
-          → Ran Takes Refuses workers growth (items_of (batches NotBuffered (record { items = xs; ending = ending }))) ending s r t
+          → Ran Takes Refuses Stops workers growth (items_of (batches NotBuffered (record { items = xs; ending = ending }))) ending s r t
           → Went (told_over r t.over)
-      passed-batches r ran = passed-ran r (subst (λ ys. Ran Takes Refuses workers growth ys ending s r t) (items-unbuffered xs ending) ran)
+      passed-batches r ran = passed-ran r (subst (λ ys. Ran Takes Refuses Stops workers growth ys ending s r t) (items-unbuffered xs ending) ran)

@@ -1,19 +1,28 @@
 -- What a run of what steps make says of the query.
-use Rattle.std.specs.Prelude.{◌≡◌, ℕ, List, Some, Option, Result, Ok, Err}
+use Rattle.std.specs.Prelude.{◌≡◌, ℕ, List, [], Bool, true, Some, Option, Result, Ok, Err}
 use Rattle.std.proofs.Common.{refl, ◌∙◌, ap, subst}
 use Rattle.std.proofs.Math.Path.{fun_ext}
 use Rattle.plinq_source.specs.declared.ending.Ending.{Ending}
 use Rattle.plinq_source.specs.declared.ending.Ending.TheVariants.{End, Refused, Fault}
 use Rattle.plinq_source.specs.Trace.{Trace}
+use Rattle.plinq_lambda.specs.Meaning.{Meaning}
+use Rattle.plinq_aggregate.specs.Folding.{Folding}
 use Rattle.plinq_ops.specs.declared.merge_option.MergeOption.{MergeOption}
 use Rattle.plinq_ops.specs.declared.merge_option.MergeOption.TheVariants.{Default, NotBuffered, AutoBuffered, FullyBuffered}
+use Rattle.plinq_ops.specs.declared.op.Op.{Op}
+use Rattle.plinq_ops.specs.Answer.{MayAnswer}
 use Rattle.plinq_ops.specs.Batches.{batches}
 use Rattle.plinq_ops.specs.Query.{merge_in_force}
 use Rattle.plinq_groups.specs.Mapping.{mapped_items, mapped_items-kept}
 use Rattle.plinq_mapped.specs.Mapped.{made_of, trace_at}
+use Rattle.plinq_run.specs.declared.aggregate_fault.AggregateFault.{AggregateFault}
+use Rattle.plinq_run.specs.declared.aggregate_fault.AggregateFault.TheVariants.{Ended as WasEnded, Run as WasRun}
 use Rattle.plinq_run.specs.declared.run_fault.RunFault.{RunFault}
-use Rattle.plinq_run.specs.Runs.{Cause, SinkRefused, Stopped, Other, Runs, BreaksFor, cause_of}
-use Rattle.plinq_passing.specs.Ran.{BreaksOff, Ran, steps_made, told_ran}
+use Rattle.plinq_run.specs.declared.run_fault.RunFault.TheVariants.{Memory, Sink, Tickets, Thread, Incomplete, Cancelled}
+use Rattle.plinq_stopping.specs.Asking.{WasLetBy, WasStoppedBy}
+use Rattle.plinq_stopping.specs.Outcomes.{AggregatesWith, RunsMadeOfWith}
+use Rattle.plinq_passing.specs.Ran.{Ran, steps_made, told_ran}
+use Rattle.plinq_passing.specs.Told.{AskedFor}
 
 -- an option that was given is in force
 pub in-force : {B : Type 0} (o : MergeOption) (v : Trace B) → batches (merge_in_force (Some o)) v ≡ batches o v
@@ -22,18 +31,55 @@ in-force NotBuffered v = refl
 in-force AutoBuffered v = refl
 in-force FullyBuffered v = refl
 
-module _ {K B : Type 0} (accepts : K → List B → K → Type 0) (refuses : K → List B → ℕ → K → Type 0) (workers : ℕ) (growth : Option (ℕ × ℕ × ℕ)) where
-  breaks-off : (cause : Cause) (bs : List (List B)) (s s' : K) → BreaksFor accepts refuses cause bs s s' → BreaksOff accepts refuses cause bs s s'
-  breaks-off (SinkRefused code) bs s s' is = is
-  breaks-off Stopped bs s s' is = is
-  breaks-off Other bs s s' is = is
+-- a plan without an operator answers with its source
+pub planned-is : {L T : Type 0} (meaning : L → Meaning T) (ordered : Bool) (ops : List (Op L)) → ordered ≡ true → ops ≡ [] → (t u : Trace T)
+    → MayAnswer meaning ordered ops t u → u ≡ t
+planned-is {L} meaning ordered ops by_order none t u may =
+    subst (λ os. MayAnswer meaning true os t u) none (subst (λ o. MayAnswer meaning o ops t u) by_order may)
 
-  pub ran-told : (option : MergeOption) (v : Trace B) (s : K) (r : Result Ending RunFault) (s' : K) → Runs accepts refuses option v s s' r
-      → Ran accepts refuses workers growth (batches option v) v.ending s (told_ran r) s'
-  ran-told option v s (Ok End) s' is = (is.delivered, is.ending)
-  ran-told option v s (Ok (Refused code)) s' is = (is.delivered, is.ending, λ well. absurd (cc))
-  ran-told option v s (Ok (Fault code)) s' is = (is.delivered, is.ending, λ well. absurd (cc))
-  ran-told option v s (Err fault) s' is = breaks-off (cause_of fault) (batches option v) s s' is
+-- what is so of these answers is so of others that they are
+module _ {C : Type 0} (asks : C → ℕ → Bool → C → Type 0) {T : Type 0} (P Q : Trace T → Type 0) (on : (u : Trace T) → P u → Q u) (c c' : C) where
+  pub aggregate-weaker : {A O : Type 0} (f : Folding T A O) (r : Result O AggregateFault) → AggregatesWith asks f P c r c' → AggregatesWith asks f Q c r c'
+  aggregate-weaker f (Ok out) h = (h.0, on h.0 h.1, h.2, h.3)
+  aggregate-weaker f (Err (WasEnded e)) h = (h.0, on h.0 h.1, h.2, h.3)
+  aggregate-weaker f (Err (WasRun Cancelled)) h = h
+  aggregate-weaker f (Err (WasRun fault)) h = h
+
+  pub run-weaker : {K B : Type 0} (accepts : K → List B → K → Type 0) (refuses : K → List B → ℕ → K → Type 0) (option : MergeOption)
+      (makes : T → Result (Option B) ℕ) (s : K) (r : Result Ending RunFault) (s' : K)
+      → RunsMadeOfWith asks accepts refuses option makes P c s r c' s' → RunsMadeOfWith asks accepts refuses option makes Q c s r c' s'
+  run-weaker accepts refuses option makes s (Ok e) s' h = (h.0, on h.0 h.1, h.2, h.3)
+  run-weaker accepts refuses option makes s (Err Cancelled) s' h = (h.0, on h.0 h.1, h.2, h.3)
+  run-weaker accepts refuses option makes s (Err (Sink code)) s' h = (h.0, on h.0 h.1, h.2, h.3)
+  run-weaker accepts refuses option makes s (Err fault) s' h = (h.0, on h.0 h.1, h.2, h.3)
+
+module _ {K T B C : Type 0} (accepts : K → List B → K → Type 0) (refuses : K → List B → ℕ → K → Type 0) (asks : C → ℕ → Bool → C → Type 0)
+    (makes : T → Result (Option B) ℕ) (option : MergeOption) (t : Trace T) (c c' : C) (s : K) where
+  abbrev Has : Result Ending RunFault → K → Type 0
+  Has r s' = RunsMadeOfWith asks accepts refuses option makes (λ u. u ≡ t) c s r c' s'
+
+  -- before it was told how the run went, its token was asked
+  pub asked-told : (r : Result Ending RunFault) (s' : K) → Has r s' → AskedFor (WasLetBy asks c) (told_ran r)
+  asked-told (Ok End) s' h = (c', h.3)
+  asked-told (Ok (Refused code)) s' h = (c', h.3)
+  asked-told (Ok (Fault code)) s' h = (c', h.3)
+  asked-told (Err (Sink code)) s' h = (c', h.3)
+  asked-told (Err fault) s' h = tt
+
+  module _ (workers : ℕ) (growth : Option (ℕ × ℕ × ℕ)) where
+    abbrev Went : Trace T → Result Ending RunFault → K → Type 0
+    Went u r s' = Ran accepts refuses (WasStoppedBy asks c) workers growth (batches option (made_of makes u)) (made_of makes u).ending s (told_ran r) s'
+
+    ran-told : (r : Result Ending RunFault) (s' : K) → Has r s' → Went t r s'
+    ran-told (Ok End) s' h = subst (λ u. Went u (Ok End) s') h.1 (h.2.delivered, h.2.ending)
+    ran-told (Ok (Refused code)) s' h = subst (λ u. Went u (Ok (Refused code)) s') h.1 (h.2.delivered, h.2.ending, λ well. absurd (cc))
+    ran-told (Ok (Fault code)) s' h = subst (λ u. Went u (Ok (Fault code)) s') h.1 (h.2.delivered, h.2.ending, λ well. absurd (cc))
+    ran-told (Err Cancelled) s' h = subst (λ u. Went u (Err Cancelled) s') h.1 ((c', h.3), h.2)
+    ran-told (Err (Sink code)) s' h = subst (λ u. Went u (Err (Sink code)) s') h.1 h.2
+    ran-told (Err Memory) s' h = subst (λ u. Went u (Err Memory) s') h.1 h.2
+    ran-told (Err Tickets) s' h = subst (λ u. Went u (Err Tickets) s') h.1 h.2
+    ran-told (Err Thread) s' h = subst (λ u. Went u (Err Thread) s') h.1 h.2
+    ran-told (Err Incomplete) s' h = subst (λ u. Went u (Err Incomplete) s') h.1 h.2
 
 module _ {T B : Type 0} (makes : T → Result (Option B) ℕ) (step : T → Option B) (same : (x : T) → makes x ≡ Ok (step x)) where
   made-steps : (u : Trace T) → made_of makes u ≡ steps_made step u
@@ -42,12 +88,13 @@ module _ {T B : Type 0} (makes : T → Result (Option B) ℕ) (step : T → Opti
       ∙ ap (λ p. trace_at p.0 p.1 u.ending) (mapped_items-kept step u.items)
 
   -- what a run delivers by a plan that has this option
-  pub ran-steps : {K : Type 0} (accepts : K → List B → K → Type 0) (refuses : K → List B → ℕ → K → Type 0) (workers : ℕ) (growth : Option (ℕ × ℕ × ℕ))
-      (plan : Option MergeOption) (option : MergeOption) → plan ≡ Some option → (t : Trace T) (s : K) (r : Result Ending RunFault) (s' : K)
-      → Runs accepts refuses (merge_in_force plan) (made_of makes t) s s' r
-      → Ran accepts refuses workers growth (batches option (steps_made step t)) t.ending s (told_ran r) s'
-  ran-steps accepts refuses workers growth plan option is t s r s' ran =
-      subst (λ bs. Ran accepts refuses workers growth bs t.ending s (told_ran r) s')
+  pub ran-steps : {K C : Type 0} (accepts : K → List B → K → Type 0) (refuses : K → List B → ℕ → K → Type 0) (asks : C → ℕ → Bool → C → Type 0) (c c' : C)
+      (workers : ℕ) (growth : Option (ℕ × ℕ × ℕ)) (plan : Option MergeOption) (option : MergeOption) → plan ≡ Some option
+      → (t : Trace T) (s : K) (r : Result Ending RunFault) (s' : K)
+      → RunsMadeOfWith asks accepts refuses (merge_in_force plan) makes (λ u. u ≡ t) c s r c' s'
+      → Ran accepts refuses (WasStoppedBy asks c) workers growth (batches option (steps_made step t)) t.ending s (told_ran r) s'
+  ran-steps accepts refuses asks c c' workers growth plan option is t s r s' ran =
+      subst (λ bs. Ran accepts refuses (WasStoppedBy asks c) workers growth bs t.ending s (told_ran r) s')
       (ap (λ o. batches (merge_in_force o) (steps_made step t)) is ∙ in-force option (steps_made step t))
-      (ran-told accepts refuses workers growth (merge_in_force plan) (steps_made step t) s r s'
-      (subst (λ v. Runs accepts refuses (merge_in_force plan) v s s' r) (made-steps t) ran))
+      (subst (λ v. Ran accepts refuses (WasStoppedBy asks c) workers growth (batches (merge_in_force plan) v) v.ending s (told_ran r) s') (made-steps t)
+      (ran-told accepts refuses asks makes (merge_in_force plan) t c c' s workers growth r s' ran))

@@ -82,12 +82,12 @@ module _ {G K T N : Type 0} (accepts : K → List T → K → Type 0) (refuses :
       touched-on accepts refuses (sink s) (sink t) k' (led-touches touches s t leads)
       (finish-touches (size t) (held t) (short t) (sink t) r r' k' fin)
 
-  module _ (workers : ℕ) (growth : Option (ℕ × ℕ × ℕ)) (ys : List T) (ending : Option Ending) (s t : G) where
+  module _ (Stops : Type 0) (workers : ℕ) (growth : Option (ℕ × ℕ × ℕ)) (ys : List T) (ending : Option Ending) (s t : G) where
     abbrev All : List (List T)
     All = batches_from (size s) (held s) (trace_of ys ending)
 
     abbrev Went : Result ⊤ QueryFault → K → Type 0
-    Went r k = Ran accepts refuses workers growth All ending (sink s) r k
+    Went r k = Ran accepts refuses Stops workers growth All ending (sink s) r k
 
     -- what was left goes out after what was sent
     sent-last : HasGathered s t ys → (e : Ending) → ending ≡ Some e → (sent : Result (Option Ending) DeliveryFault) (h : List T) (k : K)
@@ -132,7 +132,7 @@ module _ {G K T N : Type 0} (accepts : K → List T → K → Type 0) (refuses :
         (append_assoc sent (y ∷ []) rest ∙ sym parts)
         (gives-breaks accepts refuses (size s) (held s) (sink s) (open_trace (sent ++ y ∷ [])) fault (sink t) (trace_of rest ending) one)
 
-    went : (r : Result ⊤ QueryFault) → Ran TakesIn RefusesIn workers growth ys ending s r t → (r' : Result ⊤ QueryFault) (k : K)
+    went : (r : Result ⊤ QueryFault) → Ran TakesIn RefusesIn Stops workers growth ys ending s r t → (r' : Result ⊤ QueryFault) (k : K)
         → Finishes accepts refuses (size t) (held t) (short t) (sink t) r r' k → Went r' k
     went (Ok all) ran r' k fin = ends (gathered ys s t ran.0) End ran.1 (Ok tt) (λ k leads. (leads, ran.1)) r' k fin
     went (Err Degree) ran r' k fin = subst (λ it. Went it k) (sym fin.0) (fin.1 ∙ ap sink ran.0, ran.1)
@@ -145,12 +145,12 @@ module _ {G K T N : Type 0} (accepts : K → List T → K → Type 0) (refuses :
     went (Err (Run Tickets)) ran r' k fin = subst (λ it. Went it k) (sym fin.0) (came ran k fin.1)
     went (Err (Run Thread)) ran r' k fin = subst (λ it. Went it k) (sym fin.0) (came ran k fin.1)
     went (Err (Run Incomplete)) ran r' k fin = subst (λ it. Went it k) (sym fin.0) (came ran k fin.1)
-    went (Err (Run Cancelled)) ran r' k fin = absurd ran
+    went (Err (Run Cancelled)) ran r' k fin = subst (λ it. Went it k) (sym fin.0) (ran.0, came ran.1 k fin.1)
 
     -- what came to a sink by way of those that are held back, of which there are none at first
-    pub gathered-ran : held s ≡ [] → (n : Option ℕ) → size s ≡ n → (r : Result ⊤ QueryFault) → Ran TakesIn RefusesIn workers growth ys ending s r t
+    pub gathered-ran : held s ≡ [] → (n : Option ℕ) → size s ≡ n → (r : Result ⊤ QueryFault) → Ran TakesIn RefusesIn Stops workers growth ys ending s r t
         → (r' : Result ⊤ QueryFault) (k : K) → Finishes accepts refuses (size t) (held t) (short t) (sink t) r r' k
-        → Ran accepts refuses workers growth (batches_from n [] (trace_of ys ending)) ending (sink s) r' k
+        → Ran accepts refuses Stops workers growth (batches_from n [] (trace_of ys ending)) ending (sink s) r' k
     gathered-ran none n is r ran r' k fin =
-        subst (λ h. Ran accepts refuses workers growth (batches_from n h (trace_of ys ending)) ending (sink s) r' k) none
-        (subst (λ it. Ran accepts refuses workers growth (batches_from it (held s) (trace_of ys ending)) ending (sink s) r' k) is (went r ran r' k fin))
+        subst (λ h. Ran accepts refuses Stops workers growth (batches_from n h (trace_of ys ending)) ending (sink s) r' k) none
+        (subst (λ it. Ran accepts refuses Stops workers growth (batches_from it (held s) (trace_of ys ending)) ending (sink s) r' k) is (went r ran r' k fin))

@@ -21,20 +21,22 @@ module _ {K F T N : Type 0} (takes : F → T → F → Type 0) (refuses : F → 
   leads-lent [] s t is = ap p is
   leads-lent (y ∷ ys) s t (m, one, rest) = (p m, one.0, leads-lent ys m t rest)
 
-  breaks-lent : (cause : Cause) (ys : List T) (s t : K) → BreaksOff TakesLent RefusesLent cause ys s t → BreaksOff takes refuses cause ys (p s) (p t)
-  breaks-lent (SinkRefused code) ys s t (sent, next, rest, m, parts, leads, refused) =
+  breaks-lent : (Stops : Type 0) (cause : Cause) (ys : List T) (s t : K) → BreaksOff TakesLent RefusesLent Stops cause ys s t
+      → BreaksOff takes refuses Stops cause ys (p s) (p t)
+  breaks-lent Stops (SinkRefused code) ys s t (sent, next, rest, m, parts, leads, refused) =
       (sent, next, rest, p m, parts, leads-lent sent s m leads, refused.0)
-  breaks-lent Stopped ys s t is = absurd is
-  breaks-lent Other ys s t (sent, rest, parts, leads) = (sent, rest, parts, leads-lent sent s t leads)
+  breaks-lent Stops Stopped ys s t (stops, (sent, rest, parts, leads)) = (stops, (sent, rest, parts, leads-lent sent s t leads))
+  breaks-lent Stops Other ys s t (sent, rest, parts, leads) = (sent, rest, parts, leads-lent sent s t leads)
 
-  module _ (workers : ℕ) (growth : Option (ℕ × ℕ × ℕ)) where
-    pub lent-ran : (ys : List T) (ending : Option Ending) (s : K) (r : Result ⊤ QueryFault) (t : K) → Ran TakesLent RefusesLent workers growth ys ending s r t
-        → Ran takes refuses workers growth ys ending (p s) r (p t)
+  module _ (Stops : Type 0) (workers : ℕ) (growth : Option (ℕ × ℕ × ℕ)) where
+    pub lent-ran : (ys : List T) (ending : Option Ending) (s : K) (r : Result ⊤ QueryFault) (t : K)
+        → Ran TakesLent RefusesLent Stops workers growth ys ending s r t
+        → Ran takes refuses Stops workers growth ys ending (p s) r (p t)
     lent-ran ys ending s (Ok all) t ran = (leads-lent ys s t ran.0, ran.1)
     lent-ran ys ending s (Err Degree) t ran = (ap p ran.0, ran.1)
     lent-ran ys ending s (Err (Growth fault)) t ran = (ap p ran.0, ran.1)
     lent-ran ys ending s (Err (Ended e)) t ran = (leads-lent ys s t ran.0, ran.1, ran.2)
-    lent-ran ys ending s (Err (Run fault)) t ran = breaks-lent (cause_of fault) ys s t ran
+    lent-ran ys ending s (Err (Run fault)) t ran = breaks-lent Stops (cause_of fault) ys s t ran
 
   -- nothing happened to it but that items came to it
   led-lent : (touches : List (T × Option ℕ)) (s t : K) → Leads (Touches TakesLent RefusesLent) s touches t → Leads (Touches takes refuses) (p s) touches (p t)

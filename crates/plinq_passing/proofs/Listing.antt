@@ -54,21 +54,23 @@ module _ {T P K V : Type 0} (by : K → P) (acc : K → Option (List T)) (items 
     abbrev Told : Result ⊤ QueryFault → Result (V × Ending) QueryFault → Type 0
     Told r told = MatchResult told (λ it. listed r (acc s') ≡ Ok (items it.0, it.1)) (λ fault. listed r (acc s') ≡ Err fault)
 
-    pub listed-told : (workers : ℕ) (growth : Option (ℕ × ℕ × ℕ)) (r : Result ⊤ QueryFault) → Ran TakesOne RefusesOne workers growth ys ending s r s'
-        → (told : Result (V × Ending) QueryFault) → Told r told → MatchResult told IsAll (WasShort workers growth)
-    listed-told workers growth (Ok all) ran told so = all-listed End ran.1 ran.0 (WasShort workers growth) (listed (Ok tt)) refl told so
-    listed-told workers growth (Err Degree) ran told so = unlisted Degree (WasShort workers growth) ran.1 told so
-    listed-told workers growth (Err (Growth fault)) ran told so = unlisted (Growth fault) (WasShort workers growth) ran.1 told so
-    listed-told workers growth (Err (Ended e)) ran told so = all-listed e ran.1 ran.0 (WasShort workers growth) (listed (Err (Ended e))) refl told so
-    listed-told workers growth (Err (Run Memory)) ran told so = unlisted (Run Memory) (WasShort workers growth) refl told so
-    listed-told workers growth (Err (Run (Sink code))) ran told so = unlisted (Run Memory) (WasShort workers growth) refl told so
-    listed-told workers growth (Err (Run Tickets)) ran told so = unlisted (Run Tickets) (WasShort workers growth) refl told so
-    listed-told workers growth (Err (Run Thread)) ran told so = unlisted (Run Thread) (WasShort workers growth) refl told so
-    listed-told workers growth (Err (Run Incomplete)) ran told so = unlisted (Run Incomplete) (WasShort workers growth) refl told so
-    listed-told workers growth (Err (Run Cancelled)) ran told so = absurd ran
+    pub listed-told : (Stops : Type 0) (workers : ℕ) (growth : Option (ℕ × ℕ × ℕ)) (r : Result ⊤ QueryFault)
+        → Ran TakesOne RefusesOne Stops workers growth ys ending s r s'
+        → (told : Result (V × Ending) QueryFault) → Told r told → MatchResult told IsAll (WasShort Stops workers growth)
+    listed-told Stops workers growth (Ok all) ran told so = all-listed End ran.1 ran.0 (WasShort Stops workers growth) (listed (Ok tt)) refl told so
+    listed-told Stops workers growth (Err Degree) ran told so = unlisted Degree (WasShort Stops workers growth) ran.1 told so
+    listed-told Stops workers growth (Err (Growth fault)) ran told so = unlisted (Growth fault) (WasShort Stops workers growth) ran.1 told so
+    listed-told Stops workers growth (Err (Ended e)) ran told so = all-listed e ran.1 ran.0 (WasShort Stops workers growth) (listed (Err
+        (Ended e))) refl told so
+    listed-told Stops workers growth (Err (Run Memory)) ran told so = unlisted (Run Memory) (WasShort Stops workers growth) tt told so
+    listed-told Stops workers growth (Err (Run (Sink code))) ran told so = unlisted (Run Memory) (WasShort Stops workers growth) tt told so
+    listed-told Stops workers growth (Err (Run Tickets)) ran told so = unlisted (Run Tickets) (WasShort Stops workers growth) tt told so
+    listed-told Stops workers growth (Err (Run Thread)) ran told so = unlisted (Run Thread) (WasShort Stops workers growth) tt told so
+    listed-told Stops workers growth (Err (Run Incomplete)) ran told so = unlisted (Run Incomplete) (WasShort Stops workers growth) tt told so
+    listed-told Stops workers growth (Err (Run Cancelled)) ran told so = unlisted (Run Cancelled) (WasShort Stops workers growth) ran.0 told so
 
     -- on one thread nothing but memory can be short
-    pub listed-alone : (r : Result ⊤ QueryFault) → IfErr r EndedOrRefused → Ran TakesOne RefusesOne 1 None ys ending s r s'
+    pub listed-alone : (r : Result ⊤ QueryFault) → IfErr r EndedOrRefused → Ran TakesOne RefusesOne ⊥ 1 None ys ending s r s'
         → (told : Result (V × Ending) QueryFault) → Told r told → MatchResult told IsAll WasShortAlone
     listed-alone (Ok all) alone ran told so = all-listed End ran.1 ran.0 WasShortAlone (listed (Ok tt)) refl told so
     listed-alone (Err Degree) alone ran told so = absurd alone

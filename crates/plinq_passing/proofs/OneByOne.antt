@@ -61,7 +61,7 @@ module _ {T B : Type 0} (f : T → Option B) where
 pub ran-alone : {K B : Type 0} (takes : K → B → K → Type 0) (refuses : K → B → ℕ → K → Type 0) (ys : List B) (ending : Option Ending) (s : K)
     (r : Result Ending ℕ) (s' : K)
     → MatchResult r (λ e. (Leads takes s ys s') × (ending ≡ Some e)) (λ code. RefusesNext takes refuses s ys code s')
-    → Ran takes refuses 1 None ys ending s (told_alone r) s'
+    → Ran takes refuses ⊥ 1 None ys ending s (told_alone r) s'
 ran-alone takes refuses ys ending s (Ok End) s' is = is
 ran-alone takes refuses ys ending s (Ok (Refused code)) s' is = (is.0, is.1, λ well. absurd (cc))
 ran-alone takes refuses ys ending s (Ok (Fault code)) s' is = (is.0, is.1, λ well. absurd (cc))

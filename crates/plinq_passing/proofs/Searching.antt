@@ -42,20 +42,23 @@ module _ {K B : Type 0} (A : K → List B → K → Type 0) (R : K → List B �
   leads-singles [] s s' is = is
   leads-singles (y ∷ ys) s s' (m, one, more) = (m, one, leads-singles ys m s' more)
 
-  breaks-singles : (cause : Cause) (ys : List B) (s s' : K) → BreaksOff TakesOne RefusesOne cause ys s s' → BreaksOff A R cause (singles ys) s s'
-  breaks-singles (SinkRefused code) ys s s' (sent, next, rest, m, parts, leads, refused) =
+  breaks-singles : (Stops : Type 0) (cause : Cause) (ys : List B) (s s' : K) → BreaksOff TakesOne RefusesOne Stops cause ys s s'
+      → BreaksOff A R Stops cause (singles ys) s s'
+  breaks-singles Stops (SinkRefused code) ys s s' (sent, next, rest, m, parts, leads, refused) =
       (singles sent, next ∷ [], singles rest, m, ap singles parts ∙ singles-append sent (next ∷ rest), leads-singles sent s m leads, refused)
-  breaks-singles Stopped ys s s' is = absurd is
-  breaks-singles Other ys s s' (sent, rest, parts, leads) =
+  breaks-singles Stops Stopped ys s s' (stops, (sent, rest, parts, leads)) =
+      (stops, (singles sent, singles rest, ap singles parts ∙ singles-append sent rest, leads-singles sent s s' leads))
+  breaks-singles Stops Other ys s s' (sent, rest, parts, leads) =
       (singles sent, singles rest, ap singles parts ∙ singles-append sent rest, leads-singles sent s s' leads)
 
-  pub ran-singles : (workers : ℕ) (growth : Option (ℕ × ℕ × ℕ)) (ys : List B) (ending : Option Ending) (s : K) (r : Result ⊤ QueryFault) (s' : K)
-      → Ran TakesOne RefusesOne workers growth ys ending s r s' → Ran A R workers growth (singles ys) ending s r s'
-  ran-singles workers growth ys ending s (Ok all) s' ran = (leads-singles ys s s' ran.0, ran.1)
-  ran-singles workers growth ys ending s (Err Degree) s' ran = ran
-  ran-singles workers growth ys ending s (Err (Growth fault)) s' ran = ran
-  ran-singles workers growth ys ending s (Err (Ended e)) s' ran = (leads-singles ys s s' ran.0, ran.1, ran.2)
-  ran-singles workers growth ys ending s (Err (Run fault)) s' ran = breaks-singles (cause_of fault) ys s s' ran
+  pub ran-singles : (Stops : Type 0) (workers : ℕ) (growth : Option (ℕ × ℕ × ℕ)) (ys : List B) (ending : Option Ending) (s : K) (r : Result ⊤ QueryFault)
+      (s' : K)
+      → Ran TakesOne RefusesOne Stops workers growth ys ending s r s' → Ran A R Stops workers growth (singles ys) ending s r s'
+  ran-singles Stops workers growth ys ending s (Ok all) s' ran = (leads-singles ys s s' ran.0, ran.1)
+  ran-singles Stops workers growth ys ending s (Err Degree) s' ran = ran
+  ran-singles Stops workers growth ys ending s (Err (Growth fault)) s' ran = ran
+  ran-singles Stops workers growth ys ending s (Err (Ended e)) s' ran = (leads-singles ys s s' ran.0, ran.1, ran.2)
+  ran-singles Stops workers growth ys ending s (Err (Run fault)) s' ran = breaks-singles Stops (cause_of fault) ys s s' ran
 
 module _ {B : Type 0} where
   abbrev pub Takes : KeepFirst B → List B → KeepFirst B → Type 0
@@ -80,48 +83,48 @@ module _ {B : Type 0} where
   some-first : (x : B) (E : Type 0) (o : Option B) → o ≡ Some x → (o ≡ Some x) × (o ≡ None → E)
   some-first x E o is = (is, λ none. absurd (let bad : ◌≡◌ {A = Option B} (Some x) None = sym is ∙ none in cc))
 
-  module _ {T : Type 0} (workers : ℕ) (growth : Option (ℕ × ℕ × ℕ)) (t : Trace T) where
+  module _ {T : Type 0} (Stops : Type 0) (workers : ℕ) (growth : Option (ℕ × ℕ × ℕ)) (t : Trace T) where
     pub first-told : (xs : List B) (s : KeepFirst B) (r : Result ⊤ QueryFault) (s' : KeepFirst B)
-        → Ran Takes Keeps workers growth (batches NotBuffered (record { items = xs; ending = t.ending })) t.ending s r s'
+        → Ran Takes Keeps Stops workers growth (batches NotBuffered (record { items = xs; ending = t.ending })) t.ending s r s'
         → MatchResult (told_first s'.item r) (λ o. (o ≡ first_of xs) × (o ≡ None → t.ending ≡ Some End))
-        (SearchFails (first_of xs ≡ None) workers growth t)
+        (SearchFails (first_of xs ≡ None) Stops workers growth t)
     first-told [] s (Ok all) s' ran = (refl, λ none. ran.1)
     first-told [] s (Err Degree) s' ran = ran.1
     first-told [] s (Err (Growth fault)) s' ran = ran.1
     first-told [] s (Err (Ended e)) s' ran = (ran.1, ran.2, refl)
-    first-told [] s (Err (Run Memory)) s' ran = refl
+    first-told [] s (Err (Run Memory)) s' ran = tt
     first-told [] s (Err (Run (Sink code))) s' ran = absurd (none-refused s s' code ran)
-    first-told [] s (Err (Run Tickets)) s' ran = refl
-    first-told [] s (Err (Run Thread)) s' ran = refl
-    first-told [] s (Err (Run Incomplete)) s' ran = refl
-    first-told [] s (Err (Run Cancelled)) s' ran = absurd ran
+    first-told [] s (Err (Run Tickets)) s' ran = tt
+    first-told [] s (Err (Run Thread)) s' ran = tt
+    first-told [] s (Err (Run Incomplete)) s' ran = tt
+    first-told [] s (Err (Run Cancelled)) s' ran = ran.0
     first-told (x ∷ xs) s (Ok all) s' ran = absurd (let bad : ◌≡◌ {A = List B} (x ∷ []) [] = ran.0.1.0 in cc)
     first-told (x ∷ xs) s (Err Degree) s' ran = ran.1
     first-told (x ∷ xs) s (Err (Growth fault)) s' ran = ran.1
     first-told (x ∷ xs) s (Err (Ended e)) s' ran = absurd (let bad : ◌≡◌ {A = List B} (x ∷ []) [] = ran.0.1.0 in cc)
-    first-told (x ∷ xs) s (Err (Run Memory)) s' ran = refl
+    first-told (x ∷ xs) s (Err (Run Memory)) s' ran = tt
     first-told (x ∷ xs) s (Err (Run (Sink code))) s' ran = some-first x (t.ending ≡ Some End) s'.item (refused-first s s' x _ code ran)
-    first-told (x ∷ xs) s (Err (Run Tickets)) s' ran = refl
-    first-told (x ∷ xs) s (Err (Run Thread)) s' ran = refl
-    first-told (x ∷ xs) s (Err (Run Incomplete)) s' ran = refl
-    first-told (x ∷ xs) s (Err (Run Cancelled)) s' ran = absurd ran
+    first-told (x ∷ xs) s (Err (Run Tickets)) s' ran = tt
+    first-told (x ∷ xs) s (Err (Run Thread)) s' ran = tt
+    first-told (x ∷ xs) s (Err (Run Incomplete)) s' ran = tt
+    first-told (x ∷ xs) s (Err (Run Cancelled)) s' ran = ran.0
 
     -- the same where items come one by one
     pub first-singly : (xs : List B) (s : KeepFirst B) (r : Result ⊤ QueryFault) (s' : KeepFirst B)
-        → Ran (λ k y k'. Takes k (y ∷ []) k') (λ k y code k'. Keeps k (y ∷ []) code k') workers growth xs t.ending s r s'
+        → Ran (λ k y k'. Takes k (y ∷ []) k') (λ k y code k'. Keeps k (y ∷ []) code k') Stops workers growth xs t.ending s r s'
         → MatchResult (told_first s'.item r) (λ o. (o ≡ first_of xs) × (o ≡ None → t.ending ≡ Some End))
-        (SearchFails (first_of xs ≡ None) workers growth t)
+        (SearchFails (first_of xs ≡ None) Stops workers growth t)
     first-singly xs s r s' ran =
-        first-told xs s r s' (subst (λ bs. Ran Takes Keeps workers growth bs t.ending s r s') (sym (unbuffered xs t.ending))
-        (ran-singles Takes Keeps workers growth xs t.ending s r s' ran))
+        first-told xs s r s' (subst (λ bs. Ran Takes Keeps Stops workers growth bs t.ending s r s') (sym (unbuffered xs t.ending))
+        (ran-singles Takes Keeps Stops workers growth xs t.ending s r s' ran))
 
 -- ---- whether there is one
 
-module _ {T : Type 0} (workers : ℕ) (growth : Option (ℕ × ℕ × ℕ)) (t : Trace T) (E : Type 0) where
+module _ {T : Type 0} (Stops : Type 0) (workers : ℕ) (growth : Option (ℕ × ℕ × ℕ)) (t : Trace T) (E : Type 0) where
   module _ {None-found None-so : Type 0} (move : None-found → None-so) where
     found-by : {B : Type 0} (o : Option B) (is : Bool) → is_some o ≡ is → (r : Result (Option B) QueryFault)
-        → MatchResult r (λ p. (p ≡ o) × (p ≡ None → E)) (SearchFails None-found workers growth t)
-        → MatchResult (told_found r) (λ b. (b ≡ is) × (b ≡ false → E)) (SearchFails None-so workers growth t)
+        → MatchResult r (λ p. (p ≡ o) × (p ≡ None → E)) (SearchFails None-found Stops workers growth t)
+        → MatchResult (told_found r) (λ b. (b ≡ is) × (b ≡ false → E)) (SearchFails None-so Stops workers growth t)
     found-by o is so (Ok None) told = (ap is_some told.0 ∙ so, λ none. told.1 refl)
     found-by o is so (Ok (Some y)) told = (ap is_some told.0 ∙ so, λ none. absurd (let bad : ◌≡◌ {A = Bool} true false = none in cc))
     found-by o is so (Err Degree) told = told
@@ -130,8 +133,8 @@ module _ {T : Type 0} (workers : ℕ) (growth : Option (ℕ × ℕ × ℕ)) (t :
     found-by o is so (Err (Run fault)) told = told
 
     not-by : (is so : Bool) → is ≡ not so → (r : Result Bool QueryFault)
-        → MatchResult r (λ b. (b ≡ is) × (b ≡ false → E)) (SearchFails None-found workers growth t)
-        → MatchResult (told_not r) (λ b. (b ≡ so) × (b ≡ true → E)) (SearchFails None-so workers growth t)
+        → MatchResult r (λ b. (b ≡ is) × (b ≡ false → E)) (SearchFails None-found Stops workers growth t)
+        → MatchResult (told_not r) (λ b. (b ≡ so) × (b ≡ true → E)) (SearchFails None-so Stops workers growth t)
     not-by is true same (Ok false) told = (refl, λ all. told.1 refl)
     not-by is false same (Ok false) told = absurd (let bad : ◌≡◌ {A = Bool} false true = told.0 ∙ same in cc)
     not-by is true same (Ok true) told = absurd (let bad : ◌≡◌ {A = Bool} true false = told.0 ∙ same in cc)
@@ -146,37 +149,37 @@ module _ {T : Type 0} (workers : ℕ) (growth : Option (ℕ × ℕ × ℕ)) (t :
   false-true is false same none = absurd (let bad : ◌≡◌ {A = Bool} true false = sym same ∙ none in cc)
 
   pub found-told : {B : Type 0} (o : Option B) (is : Bool) → is_some o ≡ is → (r : Result (Option B) QueryFault)
-      → MatchResult r (λ p. (p ≡ o) × (p ≡ None → E)) (SearchFails (o ≡ None) workers growth t)
-      → MatchResult (told_found r) (λ b. (b ≡ is) × (b ≡ false → E)) (SearchFails (is ≡ false) workers growth t)
+      → MatchResult r (λ p. (p ≡ o) × (p ≡ None → E)) (SearchFails (o ≡ None) Stops workers growth t)
+      → MatchResult (told_found r) (λ b. (b ≡ is) × (b ≡ false → E)) (SearchFails (is ≡ false) Stops workers growth t)
   found-told o is so r told = found-by (λ none. sym so ∙ ap is_some none) o is so r told
 
   -- the same of another truth value that is the same
   pub found-same : (is so : Bool) → is ≡ so → (r : Result Bool QueryFault)
-      → MatchResult r (λ b. (b ≡ is) × (b ≡ false → E)) (SearchFails (is ≡ false) workers growth t)
-      → MatchResult r (λ b. (b ≡ so) × (b ≡ false → E)) (SearchFails (so ≡ false) workers growth t)
-  found-same is so same r told = subst (λ it. MatchResult r (λ b. (b ≡ it) × (b ≡ false → E)) (SearchFails (it ≡ false) workers growth t)) same told
+      → MatchResult r (λ b. (b ≡ is) × (b ≡ false → E)) (SearchFails (is ≡ false) Stops workers growth t)
+      → MatchResult r (λ b. (b ≡ so) × (b ≡ false → E)) (SearchFails (so ≡ false) Stops workers growth t)
+  found-same is so same r told = subst (λ it. MatchResult r (λ b. (b ≡ it) × (b ≡ false → E)) (SearchFails (it ≡ false) Stops workers growth t)) same told
 
   pub not-told : (is so : Bool) → is ≡ not so → (r : Result Bool QueryFault)
-      → MatchResult r (λ b. (b ≡ is) × (b ≡ false → E)) (SearchFails (is ≡ false) workers growth t)
-      → MatchResult (told_not r) (λ b. (b ≡ so) × (b ≡ true → E)) (SearchFails (so ≡ true) workers growth t)
+      → MatchResult r (λ b. (b ≡ is) × (b ≡ false → E)) (SearchFails (is ≡ false) Stops workers growth t)
+      → MatchResult (told_not r) (λ b. (b ≡ so) × (b ≡ true → E)) (SearchFails (so ≡ true) Stops workers growth t)
   not-told is so same r told = not-by (false-true is so same) is so same r told
 
   -- the same where a source that refused is reported only if that was undecided
   module _ (Undecided : Type 0) where
     pub found-left : {B : Type 0} (o : Option B) (is : Bool) → is_some o ≡ is → (r : Result (Option B) QueryFault)
-        → MatchResult r (λ p. (p ≡ o) × (p ≡ None → E)) (SearchFails ((o ≡ None) × Undecided) workers growth t)
-        → MatchResult (told_found r) (λ b. (b ≡ is) × (b ≡ false → E)) (SearchFails ((is ≡ false) × Undecided) workers growth t)
+        → MatchResult r (λ p. (p ≡ o) × (p ≡ None → E)) (SearchFails ((o ≡ None) × Undecided) Stops workers growth t)
+        → MatchResult (told_found r) (λ b. (b ≡ is) × (b ≡ false → E)) (SearchFails ((is ≡ false) × Undecided) Stops workers growth t)
     found-left o is so r told = found-by (λ none. (sym so ∙ ap is_some none.0, none.1)) o is so r told
 
     pub same-left : (is so : Bool) → is ≡ so → (r : Result Bool QueryFault)
-        → MatchResult r (λ b. (b ≡ is) × (b ≡ false → E)) (SearchFails ((is ≡ false) × Undecided) workers growth t)
-        → MatchResult r (λ b. (b ≡ so) × (b ≡ false → E)) (SearchFails ((so ≡ false) × Undecided) workers growth t)
+        → MatchResult r (λ b. (b ≡ is) × (b ≡ false → E)) (SearchFails ((is ≡ false) × Undecided) Stops workers growth t)
+        → MatchResult r (λ b. (b ≡ so) × (b ≡ false → E)) (SearchFails ((so ≡ false) × Undecided) Stops workers growth t)
     same-left is so same r told =
-        subst (λ it. MatchResult r (λ b. (b ≡ it) × (b ≡ false → E)) (SearchFails ((it ≡ false) × Undecided) workers growth t)) same told
+        subst (λ it. MatchResult r (λ b. (b ≡ it) × (b ≡ false → E)) (SearchFails ((it ≡ false) × Undecided) Stops workers growth t)) same told
 
     pub not-left : (is so : Bool) → is ≡ not so → (r : Result Bool QueryFault)
-        → MatchResult r (λ b. (b ≡ is) × (b ≡ false → E)) (SearchFails ((is ≡ false) × Undecided) workers growth t)
-        → MatchResult (told_not r) (λ b. (b ≡ so) × (b ≡ true → E)) (SearchFails ((so ≡ true) × Undecided) workers growth t)
+        → MatchResult r (λ b. (b ≡ is) × (b ≡ false → E)) (SearchFails ((is ≡ false) × Undecided) Stops workers growth t)
+        → MatchResult (told_not r) (λ b. (b ≡ so) × (b ≡ true → E)) (SearchFails ((so ≡ true) × Undecided) Stops workers growth t)
     not-left is so same r told = not-by (λ none. (false-true is so same none.0, none.1)) is so same r told
 
 -- ---- what is left of items, and what is made of them

@@ -25,19 +25,20 @@ module _ {K B : Type 0} (takes : K → B → K → Type 0) (refuses : K → B �
   pub touched-refused : (s : K) (y : B) (code : ℕ) (s' : K) → refuses s y code s' → Touched takes refuses s s'
   touched-refused s y code s' is = ((y, Some code) ∷ [], (s', is, refl))
 
-  breaks-touch : (cause : Cause) (bs : List B) (s s' : K) → BreaksOff takes refuses cause bs s s' → Touched takes refuses s s'
-  breaks-touch (SinkRefused code) bs s s' (sent, next, rest, m, parts, leads, refused) =
+  breaks-touch : (Stops : Type 0) (cause : Cause) (bs : List B) (s s' : K) → BreaksOff takes refuses Stops cause bs s s' → Touched takes refuses s s'
+  breaks-touch Stops (SinkRefused code) bs s s' (sent, next, rest, m, parts, leads, refused) =
       touched-on s m s' (touched-by sent s m leads) (touched-refused m next code s' refused)
-  breaks-touch Stopped bs s s' is = absurd is
-  breaks-touch Other bs s s' (sent, rest, parts, leads) = touched-by sent s s' leads
+  breaks-touch Stops Stopped bs s s' (stops, (sent, rest, parts, leads)) = touched-by sent s s' leads
+  breaks-touch Stops Other bs s s' (sent, rest, parts, leads) = touched-by sent s s' leads
 
-  pub ran-touches : (workers : ℕ) (growth : Option (ℕ × ℕ × ℕ)) (bs : List B) (ending : Option Ending) (s : K) (r : Result ⊤ QueryFault) (s' : K)
-      → Ran takes refuses workers growth bs ending s r s' → Touched takes refuses s s'
-  ran-touches workers growth bs ending s (Ok all) s' ran = touched-by bs s s' ran.0
-  ran-touches workers growth bs ending s (Err Degree) s' ran = touched-none s s' ran.0
-  ran-touches workers growth bs ending s (Err (Growth fault)) s' ran = touched-none s s' ran.0
-  ran-touches workers growth bs ending s (Err (Ended e)) s' ran = touched-by bs s s' ran.0
-  ran-touches workers growth bs ending s (Err (Run fault)) s' ran = breaks-touch (cause_of fault) bs s s' ran
+  pub ran-touches : (Stops : Type 0) (workers : ℕ) (growth : Option (ℕ × ℕ × ℕ)) (bs : List B) (ending : Option Ending) (s : K) (r : Result ⊤ QueryFault)
+      (s' : K)
+      → Ran takes refuses Stops workers growth bs ending s r s' → Touched takes refuses s s'
+  ran-touches Stops workers growth bs ending s (Ok all) s' ran = touched-by bs s s' ran.0
+  ran-touches Stops workers growth bs ending s (Err Degree) s' ran = touched-none s s' ran.0
+  ran-touches Stops workers growth bs ending s (Err (Growth fault)) s' ran = touched-none s s' ran.0
+  ran-touches Stops workers growth bs ending s (Err (Ended e)) s' ran = touched-by bs s s' ran.0
+  ran-touches Stops workers growth bs ending s (Err (Run fault)) s' ran = breaks-touch Stops (cause_of fault) bs s s' ran
 
   -- what no item changes stays the same
   module _ {N : Type 0} (name : K → N) (stays : (s : K) (y : B) (t : K) → takes s y t → name t ≡ name s)

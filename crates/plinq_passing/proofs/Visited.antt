@@ -41,20 +41,21 @@ module _ {K F T N : Type 0} (takes : F → T → F → Type 0) (refuses : F → 
         refused.1 ∙ on.1,
       )
 
-  breaks-items : (cause : Cause) (bs : List (List T)) (s s' : K) → BreaksOff Accepts Rejects cause bs s s'
-      → (BreaksOff takes refuses cause (items_of bs) (p s) (p s')) × (name s' ≡ name s)
-  breaks-items (SinkRefused code) bs s s' h = cut-items s bs (Refusal code) s' h
-  breaks-items Stopped bs s s' h = absurd h
-  breaks-items Other bs s s' h = cut-items s bs NoMore s' h
+  breaks-items : (Stops : Type 0) (cause : Cause) (bs : List (List T)) (s s' : K) → BreaksOff Accepts Rejects Stops cause bs s s'
+      → (BreaksOff takes refuses Stops cause (items_of bs) (p s) (p s')) × (name s' ≡ name s)
+  breaks-items Stops (SinkRefused code) bs s s' h = cut-items s bs (Refusal code) s' h
+  breaks-items Stops Stopped bs s s' h = let on = cut-items s bs NoMore s' h.1 in ((h.0, on.0), on.1)
+  breaks-items Stops Other bs s s' h = cut-items s bs NoMore s' h
 
   -- what a run gives such a sink says how it called, and that it lends the same
-  pub calls-ran : (workers : ℕ) (growth : Option (ℕ × ℕ × ℕ)) (bs : List (List T)) (ending : Option Ending) (s : K) (r : Result ⊤ QueryFault) (s' : K)
-      → Ran Accepts Rejects workers growth bs ending s r s'
-      → (Ran takes refuses workers growth (items_of bs) ending (p s) r (p s')) × (name s' ≡ name s)
-  calls-ran workers growth bs ending s (Ok all) s' ran =
+  pub calls-ran : (Stops : Type 0) (workers : ℕ) (growth : Option (ℕ × ℕ × ℕ)) (bs : List (List T)) (ending : Option Ending) (s : K)
+      (r : Result ⊤ QueryFault) (s' : K)
+      → Ran Accepts Rejects Stops workers growth bs ending s r s'
+      → (Ran takes refuses Stops workers growth (items_of bs) ending (p s) r (p s')) × (name s' ≡ name s)
+  calls-ran Stops workers growth bs ending s (Ok all) s' ran =
       let on = leads-items s bs s' ran.0 in ((on.0, ran.1), on.1)
-  calls-ran workers growth bs ending s (Err Degree) s' ran = ((ap p ran.0, ran.1), ap name ran.0)
-  calls-ran workers growth bs ending s (Err (Growth fault)) s' ran = ((ap p ran.0, ran.1), ap name ran.0)
-  calls-ran workers growth bs ending s (Err (Ended e)) s' ran =
+  calls-ran Stops workers growth bs ending s (Err Degree) s' ran = ((ap p ran.0, ran.1), ap name ran.0)
+  calls-ran Stops workers growth bs ending s (Err (Growth fault)) s' ran = ((ap p ran.0, ran.1), ap name ran.0)
+  calls-ran Stops workers growth bs ending s (Err (Ended e)) s' ran =
       let on = leads-items s bs s' ran.0 in ((on.0, ran.1, ran.2), on.1)
-  calls-ran workers growth bs ending s (Err (Run fault)) s' ran = breaks-items (cause_of fault) bs s s' ran
+  calls-ran Stops workers growth bs ending s (Err (Run fault)) s' ran = breaks-items Stops (cause_of fault) bs s s' ran

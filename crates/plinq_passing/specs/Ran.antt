@@ -12,27 +12,27 @@ use Rattle.plinq_run.specs.declared.run_fault.RunFault.TheVariants.{Memory, Sink
 use Rattle.plinq_run.specs.Runs.{Cause, SinkRefused, Stopped, Other, cause_of}
 use Rattle.plinq_passing.specs.declared.query_fault.QueryFault.{QueryFault}
 use Rattle.plinq_passing.specs.declared.query_fault.QueryFault.TheVariants.{Degree, Growth, Ended, Run}
-use Rattle.plinq_passing.specs.Told.{CantGrow}
+use Rattle.plinq_passing.specs.Told.{CantGrow, FallsShort}
 
 -- what is made of a source's items, and how it ended
 abbrev pub steps_made : {T B : Type 0} → (T → Option B) → Trace T → Trace B
 steps_made f t = record { items = filter_map f t.items; ending = t.ending }
 
 module _ {K B : Type 0} (accepts : K → B → K → Type 0) (refuses : K → B → ℕ → K → Type 0) where
-  -- a sink has taken a beginning of these, and if that is the cause it refused the next; nothing else stops a query
-  abbrev pub BreaksOff : Cause → List B → K → K → Type 0
-  BreaksOff (SinkRefused code) bs s s' = RefusesNext accepts refuses s bs code s'
-  BreaksOff Stopped bs s s' = ⊥
-  BreaksOff Other bs s s' = TakesBeginning accepts s bs s'
+  -- a sink has taken a beginning of these, and if that is the cause it refused the next, or the token stopped the query, if it may
+  abbrev pub BreaksOff : Type 0 → Cause → List B → K → K → Type 0
+  BreaksOff Stops (SinkRefused code) bs s s' = RefusesNext accepts refuses s bs code s'
+  BreaksOff Stops Stopped bs s s' = Stops × TakesBeginning accepts s bs s'
+  BreaksOff Stops Other bs s s' = TakesBeginning accepts s bs s'
 
   -- a sink has taken all of these, and the source ended well, or else the fault says how; or it has taken none, since so many workers
   -- can't be had or the growth's numbers make none; or a beginning of them
-  abbrev pub Ran : ℕ → Option (ℕ × ℕ × ℕ) → List B → Option Ending → K → Result ⊤ QueryFault → K → Type 0
-  Ran workers growth bs ending s (Ok all) s' = (Leads accepts s bs s') × (ending ≡ Some End)
-  Ran workers growth bs ending s (Err Degree) s' = (s' ≡ s) × (is_degree workers ≡ false)
-  Ran workers growth bs ending s (Err (Growth fault)) s' = (s' ≡ s) × CantGrow growth fault
-  Ran workers growth bs ending s (Err (Ended e)) s' = (Leads accepts s bs s') × (ending ≡ Some e) × (e ≢ End)
-  Ran workers growth bs ending s (Err (Run fault)) s' = BreaksOff (cause_of fault) bs s s'
+  abbrev pub Ran : Type 0 → ℕ → Option (ℕ × ℕ × ℕ) → List B → Option Ending → K → Result ⊤ QueryFault → K → Type 0
+  Ran Stops workers growth bs ending s (Ok all) s' = (Leads accepts s bs s') × (ending ≡ Some End)
+  Ran Stops workers growth bs ending s (Err Degree) s' = (s' ≡ s) × (is_degree workers ≡ false)
+  Ran Stops workers growth bs ending s (Err (Growth fault)) s' = (s' ≡ s) × CantGrow growth fault
+  Ran Stops workers growth bs ending s (Err (Ended e)) s' = (Leads accepts s bs s') × (ending ≡ Some e) × (e ≢ End)
+  Ran Stops workers growth bs ending s (Err (Run fault)) s' = BreaksOff Stops (cause_of fault) bs s s'
 
 -- how a run ended, as the query's own: well, or so
 abbrev pub told_ran : Result Ending RunFault → Result ⊤ QueryFault
@@ -68,12 +68,12 @@ told_alone (Ok (Fault code)) = Err (Ended (Fault code))
 told_alone (Err code) = Err (Run (Sink code))
 
 -- why a search returns no answer: it found nothing before the source refused with this ending; or the number of workers or the growth
--- was refused; or memory, a thread or tickets ran out
-abbrev pub SearchFails : {T : Type 0} → Type 0 → ℕ → Option (ℕ × ℕ × ℕ) → Trace T → QueryFault → Type 0
-SearchFails FoundNone workers growth t Degree = is_degree workers ≡ false
-SearchFails FoundNone workers growth t (Growth fault) = CantGrow growth fault
-SearchFails FoundNone workers growth t (Ended e) = (t.ending ≡ Some e) × (e ≢ End) × FoundNone
-SearchFails FoundNone workers growth t (Run fault) = cause_of fault ≡ Other
+-- was refused; or its token stopped it; or memory, a thread or tickets ran out
+abbrev pub SearchFails : {T : Type 0} → Type 0 → Type 0 → ℕ → Option (ℕ × ℕ × ℕ) → Trace T → QueryFault → Type 0
+SearchFails FoundNone Stops workers growth t Degree = is_degree workers ≡ false
+SearchFails FoundNone Stops workers growth t (Growth fault) = CantGrow growth fault
+SearchFails FoundNone Stops workers growth t (Ended e) = (t.ending ≡ Some e) × (e ≢ End) × FoundNone
+SearchFails FoundNone Stops workers growth t (Run fault) = FallsShort Stops (cause_of fault)
 
 -- what steps by position leave of what is made of a source's items, and whether these decide it, whatever comes after them
 abbrev pub left_of : {T B C : Type 0} → (T → Option B) → (List B → List C) → Trace T → List C
@@ -147,21 +147,29 @@ keeps s x s' = s' ≡ x ∷ s
 abbrev never : List ℕ → ℕ → ℕ → List ℕ → Type 0
 never s x code s' = ⊥
 
-all_were_taken : Ran keeps never 4 None (5 ∷ []) (Some End) [] (Ok tt) (5 ∷ [])
+all_were_taken : Ran keeps never ⊥ 4 None (5 ∷ []) (Some End) [] (Ok tt) (5 ∷ [])
 all_were_taken = ((5 ∷ [], refl, refl), refl)
 
 -- a refusal isn't an end
-a_refusal_as_an_end : Ran keeps never 4 None (5 ∷ []) (Some (Refused 7)) [] (Ok tt) (5 ∷ []) → ⊥
+a_refusal_as_an_end : Ran keeps never ⊥ 4 None (5 ∷ []) (Some (Refused 7)) [] (Ok tt) (5 ∷ []) → ⊥
 a_refusal_as_an_end ran = absurd (let bad : ◌≡◌ {A = Option Ending} (Some (Refused 7)) (Some End) = ran.1 in cc)
 
 -- what came before a refusal was delivered
-lost_before_a_refusal : Ran keeps never 4 None (5 ∷ []) (Some (Refused 7)) [] (Err (Ended (Refused 7))) [] → ⊥
+lost_before_a_refusal : Ran keeps never ⊥ 4 None (5 ∷ []) (Some (Refused 7)) [] (Err (Ended (Refused 7))) [] → ⊥
 lost_before_a_refusal ran = absurd (let bad : ◌≡◌ {A = List ℕ} [] (5 ∷ []) = ran.0.2 ∙ ran.0.1 in cc)
 
 -- a query that was never begun delivers nothing
-begun_all_the_same : Ran keeps never 65 None (5 ∷ []) (Some End) [] (Err Degree) (5 ∷ []) → ⊥
+begun_all_the_same : Ran keeps never ⊥ 65 None (5 ∷ []) (Some End) [] (Err Degree) (5 ∷ []) → ⊥
 begun_all_the_same ran = absurd (let bad : ◌≡◌ {A = List ℕ} (5 ∷ []) [] = ran.0 in cc)
 
+-- what was stopped has taken a beginning
+stopped_after_one : Ran keeps never ⊤ 4 None (5 ∷ 6 ∷ []) (Some End) [] (Err (Run Cancelled)) (5 ∷ [])
+stopped_after_one = (tt, (5 ∷ [], 6 ∷ [], refl, (5 ∷ [], refl, refl)))
+
+-- nothing is stopped without a token that may
+stopped_by_none : Ran keeps never ⊥ 4 None (5 ∷ []) (Some End) [] (Err (Run Cancelled)) [] → ⊥
+stopped_by_none ran = ran.0
+
 -- a search that found something isn't said to have failed
-found_all_the_same : SearchFails ⊥ 4 None (ended_trace {T = ℕ} [] (Refused 7)) (Ended (Refused 7)) → ⊥
+found_all_the_same : SearchFails ⊥ ⊥ 4 None (ended_trace {T = ℕ} [] (Refused 7)) (Ended (Refused 7)) → ⊥
 found_all_the_same fails = fails.2

@@ -1,5 +1,5 @@
 -- What a query returns.
-use Rattle.std.specs.Prelude.{◌≡◌, ◌≢◌, refl, ℕ, [], Some, None, Bool, false, Option, Result, Ok, Err}
+use Rattle.std.specs.Prelude.{◌≡◌, ◌≢◌, refl, ⊤, ℕ, [], Some, None, Bool, false, Option, Result, Ok, Err}
 use Rattle.plinq_source.specs.declared.ending.Ending.{Ending}
 use Rattle.plinq_source.specs.declared.ending.Ending.TheVariants.{End, Refused}
 use Rattle.plinq_source.specs.Trace.{Trace, ended_trace}
@@ -9,8 +9,8 @@ use Rattle.plinq_enumerator.specs.declared.growth_fault.GrowthFault.TheVariants.
 use Rattle.plinq_enumerator.specs.Growing.{GrowthRule, growth_rule}
 use Rattle.plinq_run.specs.declared.aggregate_fault.AggregateFault.{AggregateFault}
 use Rattle.plinq_run.specs.declared.aggregate_fault.AggregateFault.TheVariants.{Ended as WasEnded, Run as WasRun}
-use Rattle.plinq_run.specs.declared.run_fault.RunFault.TheVariants.{Memory, Sink, Thread}
-use Rattle.plinq_run.specs.Runs.{Other, cause_of}
+use Rattle.plinq_run.specs.declared.run_fault.RunFault.TheVariants.{Memory, Sink, Thread, Cancelled}
+use Rattle.plinq_run.specs.Runs.{Cause, SinkRefused, Stopped, Other, cause_of}
 use Rattle.plinq_passing.specs.declared.query_fault.QueryFault.{QueryFault}
 use Rattle.plinq_passing.specs.declared.query_fault.QueryFault.TheVariants.{Degree, Growth, Ended, Run}
 
@@ -26,13 +26,26 @@ NoGrowth growth Degree = ⊥
 NoGrowth growth (Ended e) = ⊥
 NoGrowth growth (Run fault) = ⊥
 
+-- why a run that no sink refused broke off: its token stopped it, if it may; or memory, a thread or tickets were short
+abbrev pub FallsShort : Type 0 → Cause → Type 0
+FallsShort Stops (SinkRefused code) = ⊥
+FallsShort Stops Stopped = Stops
+FallsShort Stops Other = ⊤
+
 -- why there is no answer: the source ended so, which isn't well; or so many workers can't be had; or the growth's numbers make none;
--- or memory, a thread or tickets were short
-abbrev pub HasNone : {T : Type 0} → ℕ → Option (ℕ × ℕ × ℕ) → Trace T → QueryFault → Type 0
-HasNone workers growth t Degree = is_degree workers ≡ false
-HasNone workers growth t (Growth fault) = CantGrow growth fault
-HasNone workers growth t (Ended e) = (t.ending ≡ Some e) × (e ≢ End)
-HasNone workers growth t (Run fault) = cause_of fault ≡ Other
+-- or the token stopped it; or memory, a thread or tickets were short
+abbrev pub HasNone : {T : Type 0} → Type 0 → ℕ → Option (ℕ × ℕ × ℕ) → Trace T → QueryFault → Type 0
+HasNone Stops workers growth t Degree = is_degree workers ≡ false
+HasNone Stops workers growth t (Growth fault) = CantGrow growth fault
+HasNone Stops workers growth t (Ended e) = (t.ending ≡ Some e) × (e ≢ End)
+HasNone Stops workers growth t (Run fault) = FallsShort Stops (cause_of fault)
+
+-- what is reported came after the token was asked, and let it pass; of what was never begun, was stopped or fell short that isn't known
+abbrev pub AskedFor : {X : Type 0} → Type 0 → Result X QueryFault → Type 0
+AskedFor Lets (Ok x) = Lets
+AskedFor Lets (Err (Ended e)) = Lets
+AskedFor Lets (Err (Run (Sink code))) = Lets
+AskedFor Lets (Err fault) = ⊤
 
 -- the same on one thread, where nothing but memory can be short
 abbrev pub HasNoneAlone : {T : Type 0} → Trace T → QueryFault → Type 0
@@ -53,31 +66,39 @@ abbrev refused : Trace ℕ
 refused = ended_trace [] (Refused 7)
 
 -- how the source ended is reported
-as_it_ended : HasNone 4 None refused (Ended (Refused 7))
+as_it_ended : HasNone ⊥ 4 None refused (Ended (Refused 7))
 as_it_ended = (refl, λ is. absurd (cc))
 
-another_ending : HasNone 4 None refused (Ended (Refused 8)) → ⊥
+another_ending : HasNone ⊥ 4 None refused (Ended (Refused 8)) → ⊥
 another_ending is = absurd (let bad : ◌≡◌ {A = Option Ending} (Some (Refused 7)) (Some (Refused 8)) = is.0 in cc)
 
 -- an answer that ended well isn't withheld
-an_end_is_no_fault : HasNone 4 None (ended_trace {T = ℕ} [] End) (Ended End) → ⊥
+an_end_is_no_fault : HasNone ⊥ 4 None (ended_trace {T = ℕ} [] End) (Ended End) → ⊥
 an_end_is_no_fault is = is.1 refl
 
 -- 64 workers can be had
-too_few : HasNone 64 None refused Degree → ⊥
+too_few : HasNone ⊥ 64 None refused Degree → ⊥
 too_few is = absurd (let bad : ◌≡◌ {A = Bool} (is_degree 64) false = is in cc)
 
 -- no sink of the query's own refused
-no_sink : HasNone 4 None refused (Run (Sink 7)) → ⊥
-no_sink is = absurd (cc)
+no_sink : HasNone ⊥ 4 None refused (Run (Sink 7)) → ⊥
+no_sink is = is
+
+-- without a token that may stop it nothing is cancelled
+cancelled_by_none : HasNone ⊥ 4 None refused (Run Cancelled) → ⊥
+cancelled_by_none is = is
+
+-- a value is reported of what was asked for alone
+value_unasked : AskedFor {X = ℕ} ⊥ (Ok 5) → ⊥
+value_unasked asked = asked
 
 -- on one thread no thread can be missing
 no_thread_alone : HasNoneAlone refused (Run Thread) → ⊥
 no_thread_alone is = absurd (cc)
 
 -- chunks of one are a growth
-a_growth : HasNone 4 (Some (1, 1, 1)) refused (Growth Zero) → ⊥
+a_growth : HasNone ⊥ 4 (Some (1, 1, 1)) refused (Growth Zero) → ⊥
 a_growth is = absurd (let bad : ◌≡◌ {A = Result GrowthRule GrowthFault} (growth_rule 1 1 1) (Err Zero) = is in cc)
 
-chunks_of_none : HasNone 4 (Some (0, 1, 1)) refused (Growth Zero)
+chunks_of_none : HasNone ⊥ 4 (Some (0, 1, 1)) refused (Growth Zero)
 chunks_of_none = refl

@@ -5,7 +5,8 @@ ghost use Rattle.plinq_source.specs.declared.ending.Ending.TheVariants.{End};
 ghost use Rattle.plinq_aggregate.specs.Folding.{aggregate_value};
 ghost use Rattle.plinq_ops.specs.Query.{is_degree};
 ghost use Rattle.plinq_passing.specs.declared.query_fault.QueryFault.TheVariants.{Degree};
-ghost use Rattle.plinq_passing.specs.Told.{HasNone, HasNoneAlone};
+ghost use Rattle.plinq_passing.specs.Told.{AskedFor, HasNone, HasNoneAlone};
+ghost use Rattle.plinq_stopping.specs.Asking.{WasLetBy, WasStoppedBy};
 
 use crate::by_threads::ByThreads;
 use crate::made::Made;
@@ -14,6 +15,7 @@ use crate::planning::{aggregate_alone, aggregate_of, growth_of, plan_of, told_of
 use crate::query_fault::QueryFault;
 use plinq_aggregate::GrowingAggregator;
 use plinq_groups::FoldEach;
+use plinq_merge::Cancel;
 use plinq_source::Source;
 use plinq_steps::Steps;
 use std::alloc::Global;
@@ -22,10 +24,10 @@ use std::thread::Threads;
 use std::time::Clock;
 
 /// What an aggregator makes of what steps make, by threads, which fold it.
-pub fn aggregate_steps<Src, S, A, R>(
+pub fn aggregate_steps<Src, S, A, C, R>(
     source: Src,
     steps: S,
-    settings: ByThreads,
+    settings: ByThreads<C>,
     rt: &R,
     alloc: Global,
     aggregator: A,
@@ -35,6 +37,7 @@ where
     Src: Source<Item = S::From>,
     A: GrowingAggregator<Item = S::To>,
     A::Out: Drop,
+    C: Cancel + Drop,
     R: Clock + Threads + Wait + Sync,
     requires fresh { Src.given source ≡ 0 }
     requires is_called { S.is_called steps }
@@ -42,18 +45,26 @@ where
     requires gives { S.gives steps }
     requires gives_one { S.gives_one steps }
     ensures degree { is_degree settings.degree ≡ false → result ≡ Err Degree }
+    ensures asked { AskedFor (WasLetBy C.asks settings.token) result }
     ensures value { (f : S.From → Option S.To) → ((x : S.From) → S.makes steps x (f x)) → MatchResult result
         (λ out. (out ≡ aggregate_value (A.folding aggregator) (filter_map f (Src.whole source).items))
         × ((Src.whole source).ending ≡ Some End))
-        (HasNone settings.degree settings.growth (Src.whole source)) }
+        (HasNone (WasStoppedBy C.asks settings.token) settings.degree settings.growth (Src.whole source)) }
 {
-    let plan = plan_of::<Plain<S::From>>(alloc, settings.degree)?;
-    let growth = growth_of(settings.growth)?;
+    let ByThreads {
+        degree,
+        growth,
+        token,
+        ..
+    } = settings;
+    let mut token = token;
+    let plan = plan_of::<Plain<S::From>>(alloc, degree)?;
+    let growth = growth_of(growth)?;
     let folds = FoldEach {
         make: Made::of(&steps),
         each: aggregator,
     };
-    told_of(aggregate_of(rt, alloc, &plan, source, growth, &folds))
+    told_of(aggregate_of(rt, alloc, &plan, source, growth, &mut token, &folds))
 }
 
 /// The same on the caller's thread.

@@ -1,10 +1,12 @@
 use plinq_ops::MergeOption;
 
 /// The settings of a query that is run by threads.
-#[derive(Clone, Copy, Drop)]
-pub struct ByThreads {
+#[derive(Drop)]
+pub struct ByThreads<C> {
     pub degree: u64,
     // (the numbers of a growth, which is made of them when the query is run)
     pub growth: Option<(u64, u64, u64)>,
     pub merge: MergeOption,
+    /// What may stop it.
+    pub token: C,
 }

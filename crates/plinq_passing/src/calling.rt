@@ -6,6 +6,8 @@ ghost use Rattle.plinq_ops.specs.Batches.{batches};
 ghost use Rattle.plinq_ops.specs.Query.{is_degree};
 ghost use Rattle.plinq_passing.specs.declared.query_fault.QueryFault.TheVariants.{Degree};
 ghost use Rattle.plinq_passing.specs.Ran.{Ran, EndedOrRefused, steps_made};
+ghost use Rattle.plinq_passing.specs.Told.{AskedFor};
+ghost use Rattle.plinq_stopping.specs.Asking.{WasLetBy, WasStoppedBy};
 
 use crate::alone::{told_alone, visit_alone};
 use crate::by_threads::ByThreads;
@@ -14,6 +16,7 @@ use crate::made::Made;
 use crate::query_fault::QueryFault;
 use crate::running::run_steps_into;
 use crate::visits::Visits;
+use plinq_merge::Cancel;
 use plinq_source::Source;
 use plinq_steps::Steps;
 use std::alloc::Global;
@@ -22,10 +25,10 @@ use std::thread::Threads;
 use std::time::Clock;
 
 /// Calls what is lent with each item that the steps make of a source's. The workers apply the steps, this thread calls.
-pub fn call_by_threads<Src, S, V, R>(
+pub fn call_by_threads<Src, S, V, C, R>(
     source: Src,
     steps: S,
-    settings: ByThreads,
+    settings: ByThreads<C>,
     rt: &R,
     alloc: Global,
     by: &mut V::Called,
@@ -34,6 +37,7 @@ where
     S: Steps<From: Send + Sync, To: Send + Sync> + Sync + Drop,
     Src: Source<Item = S::From>,
     V: Visits<Item = S::To>,
+    C: Cancel + Drop,
     R: Clock + Threads + Wait + Sync,
     requires fresh { Src.given source ≡ 0 }
     requires is_called { S.is_called steps }
@@ -43,7 +47,9 @@ where
     requires may_call { V.is_called }
     requires may_call_in_one_way { (a b : V.is_called) → a ≡ b }
     ensures degree { is_degree settings.degree ≡ false → result ≡ Err Degree }
-    ensures calls { (f : S.From → Option S.To) → ((x : S.From) → S.makes steps x (f x)) → Ran V.takes V.refuses settings.degree settings.growth
+    ensures asked { AskedFor (WasLetBy C.asks settings.token) result }
+    ensures calls { (f : S.From → Option S.To) → ((x : S.From) → S.makes steps x (f x))
+        → Ran V.takes V.refuses (WasStoppedBy C.asks settings.token) settings.degree settings.growth
         (items_of (batches settings.merge (steps_made f (Src.whole source)))) (Src.whole source).ending by.old result by.new }
 {
     let mut sink = CallEach::<V> { by };
@@ -51,10 +57,10 @@ where
 }
 
 /// Runs steps into a sink that calls.
-fn run_calls<Src, S, V, R>(
+fn run_calls<Src, S, V, C, R>(
     source: Src,
     steps: S,
-    settings: ByThreads,
+    settings: ByThreads<C>,
     rt: &R,
     alloc: Global,
     sink: &mut CallEach<'_, V>,
@@ -63,6 +69,7 @@ where
     S: Steps<From: Send + Sync, To: Send + Sync> + Sync + Drop,
     Src: Source<Item = S::From>,
     V: Visits<Item = S::To>,
+    C: Cancel + Drop,
     R: Clock + Threads + Wait + Sync,
     requires fresh { Src.given source ≡ 0 }
     requires is_called { S.is_called steps }
@@ -70,8 +77,10 @@ where
     requires gives { S.gives steps }
     requires gives_one { S.gives_one steps }
     ensures degree { is_degree settings.degree ≡ false → result ≡ Err Degree }
+    ensures asked { AskedFor (WasLetBy C.asks settings.token) result }
     ensures same { sink.new.by.ghost_name ≡ sink.old.by.ghost_name }
-    ensures calls { (f : S.From → Option S.To) → ((x : S.From) → S.makes steps x (f x)) → Ran V.takes V.refuses settings.degree settings.growth
+    ensures calls { (f : S.From → Option S.To) → ((x : S.From) → S.makes steps x (f x))
+        → Ran V.takes V.refuses (WasStoppedBy C.asks settings.token) settings.degree settings.growth
         (items_of (batches settings.merge (steps_made f (Src.whole source)))) (Src.whole source).ending sink.old.by.now result sink.new.by.now }
 {
     run_steps_into(source, steps, settings, rt, alloc, sink)
@@ -89,7 +98,7 @@ where
     requires gives { S.gives steps }
     requires gives_one { S.gives_one steps }
     requires may_call { V.is_called }
-    ensures calls { (f : S.From → Option S.To) → ((x : S.From) → S.makes steps x (f x)) → Ran V.takes V.refuses 1 None
+    ensures calls { (f : S.From → Option S.To) → ((x : S.From) → S.makes steps x (f x)) → Ran V.takes V.refuses ⊥ 1 None
         (filter_map f (Src.whole source).items) (Src.whole source).ending by.old result by.new }
     ensures alone { IfErr result EndedOrRefused }
 {

@@ -4,6 +4,8 @@ ghost use Rattle.plinq_collect.specs.Telling.{items_of};
 ghost use Rattle.plinq_ops.specs.Batches.{batches, batches_from};
 ghost use Rattle.plinq_ops.specs.Query.{is_degree};
 ghost use Rattle.plinq_passing.specs.declared.query_fault.QueryFault.TheVariants.{Degree};
+ghost use Rattle.plinq_passing.specs.Told.{AskedFor};
+ghost use Rattle.plinq_stopping.specs.Asking.{WasLetBy, WasStoppedBy};
 ghost use Rattle.plinq_passing.specs.Ran.{Ran, EndedOrRefused, left_trace};
 ghost use Rattle.plinq_passing.specs.Passing.{Finishes, SendsLast, Touched};
 
@@ -16,7 +18,7 @@ use crate::passing::{pass_alone, pass_by_threads};
 use crate::query_fault::QueryFault;
 use crate::visits::Visits;
 use plinq_mapped::DeliverMade;
-use plinq_merge::{DeliveryFault, Sink};
+use plinq_merge::{Cancel, DeliveryFault, Sink};
 use plinq_run::RunFault;
 use plinq_source::{Ending, Source};
 use plinq_steps::{Positional, Steps};
@@ -68,11 +70,11 @@ fn finish<K: Sink<Item: Copy>>(
 
 /// Delivers to a sink, in batches, what steps by position leave of what the steps before them make, by threads. The source is left once
 /// no more can be made.
-pub fn run_left_into<Src, S, L, K, R>(
+pub fn run_left_into<Src, S, L, K, C, R>(
     source: Src,
     steps: S,
     later: L,
-    settings: ByThreads,
+    settings: ByThreads<C>,
     rt: &R,
     alloc: Global,
     sink: &mut K,
@@ -82,6 +84,7 @@ where
     Src: Source<Item = S::From>,
     L: Positional<From = S::To> + Drop,
     K: Sink<Item = L::To>,
+    C: Cancel + Drop,
     R: Clock + Threads + Wait + Sync,
     requires fresh { Src.given source ≡ 0 }
     requires is_called { S.is_called steps }
@@ -92,9 +95,11 @@ where
     requires then_in_one_way { (l : L) → L.in_one_way l }
     requires then_gives_one { (l : L) → L.gives_one l }
     ensures degree { is_degree settings.degree ≡ false → result ≡ Err Degree }
+    ensures asked { AskedFor (WasLetBy C.asks settings.token) result }
     ensures touched { Touched K.accepts K.refuses sink.old sink.new }
     ensures ran { (f : S.From → Option S.To) → ((x : S.From) → S.makes steps x (f x)) → (g : List S.To → List L.To) (d : List S.To → Bool)
-        → L.means later g d → Ran K.accepts K.refuses settings.degree settings.growth (batches settings.merge (left_trace f g d (Src.whole source)))
+        → L.means later g d → Ran K.accepts K.refuses (WasStoppedBy C.asks settings.token) settings.degree settings.growth (batches settings.merge
+        (left_trace f g d (Src.whole source)))
         (left_trace f g d (Src.whole source)).ending sink.old result sink.new }
 {
     let mut gathered = Gathered {
@@ -113,11 +118,11 @@ where
 }
 
 /// Delivers what is left by way of what is held back, of which there is nothing at first.
-fn run_gathered<Src, S, L, K, R>(
+fn run_gathered<Src, S, L, K, C, R>(
     source: Src,
     steps: S,
     later: L,
-    settings: ByThreads,
+    settings: ByThreads<C>,
     rt: &R,
     alloc: Global,
     gathered: &mut Gathered<'_, K>,
@@ -127,6 +132,7 @@ where
     Src: Source<Item = S::From>,
     L: Positional<From = S::To> + Drop,
     K: Sink<Item = L::To>,
+    C: Cancel + Drop,
     R: Clock + Threads + Wait + Sync,
     requires fresh { Src.given source ≡ 0 }
     requires is_called { S.is_called steps }
@@ -138,25 +144,26 @@ where
     requires then_gives_one { (l : L) → L.gives_one l }
     requires begins { gathered.old.made.held.items ≡ [] }
     ensures degree { is_degree settings.degree ≡ false → result ≡ Err Degree }
+    ensures asked { AskedFor (WasLetBy C.asks settings.token) result }
     ensures same { gathered.new.sink.ghost_name ≡ gathered.old.sink.ghost_name }
     ensures touched { Touched K.accepts K.refuses gathered.old.sink.now gathered.new.sink.now }
     ensures ran { (f : S.From → Option S.To) → ((x : S.From) → S.makes steps x (f x)) → (g : List S.To → List L.To) (d : List S.To → Bool)
-        → L.means later g d → Ran K.accepts K.refuses settings.degree settings.growth
+        → L.means later g d → Ran K.accepts K.refuses (WasStoppedBy C.asks settings.token) settings.degree settings.growth
         (batches_from gathered.old.made.size [] (left_trace f g d (Src.whole source))) (left_trace f g d (Src.whole source)).ending
         gathered.old.sink.now result gathered.new.sink.now }
 {
-    let outcome = visit_left::<Src, S, L, Gathers<'_, K>, R>(
+    let outcome = visit_left::<Src, S, L, Gathers<'_, K>, C, R>(
         source, steps, later, settings, rt, alloc, gathered,
     );
     finish(gathered, outcome)
 }
 
 /// Passes on what is left, item by item, by threads.
-fn visit_left<Src, S, L, V, R>(
+fn visit_left<Src, S, L, V, C, R>(
     source: Src,
     steps: S,
     later: L,
-    settings: ByThreads,
+    settings: ByThreads<C>,
     rt: &R,
     alloc: Global,
     by: &mut V::Called,
@@ -166,6 +173,7 @@ where
     Src: Source<Item = S::From>,
     L: Positional<From = S::To> + Drop,
     V: Visits<Item = L::To>,
+    C: Cancel + Drop,
     R: Clock + Threads + Wait + Sync,
     requires fresh { Src.given source ≡ 0 }
     requires is_called { S.is_called steps }
@@ -178,9 +186,10 @@ where
     requires may_call { V.is_called }
     requires may_call_in_one_way { (a b : V.is_called) → a ≡ b }
     ensures degree { is_degree settings.degree ≡ false → result ≡ Err Degree }
+    ensures asked { AskedFor (WasLetBy C.asks settings.token) result }
     ensures touched { Touched V.takes V.refuses by.old by.new }
     ensures ran { (f : S.From → Option S.To) → ((x : S.From) → S.makes steps x (f x)) → (g : List S.To → List L.To) (d : List S.To → Bool)
-        → L.means later g d → Ran V.takes V.refuses settings.degree settings.growth
+        → L.means later g d → Ran V.takes V.refuses (WasStoppedBy C.asks settings.token) settings.degree settings.growth
         (left_trace f g d (Src.whole source)).items (left_trace f g d (Src.whole source)).ending by.old result by.new }
 {
     let mut passed = Passed {
@@ -188,7 +197,7 @@ where
         to: by,
         over: false,
     };
-    let outcome = visit_lent::<Src, S, L, V, R>(source, steps, settings, rt, alloc, &mut passed);
+    let outcome = visit_lent::<Src, S, L, V, C, R>(source, steps, settings, rt, alloc, &mut passed);
     // (part by part, as above)
     let Passed {
         later: _later,
@@ -199,10 +208,10 @@ where
 }
 
 /// Passes on what is left to what is lent.
-fn visit_lent<Src, S, L, V, R>(
+fn visit_lent<Src, S, L, V, C, R>(
     source: Src,
     steps: S,
-    settings: ByThreads,
+    settings: ByThreads<C>,
     rt: &R,
     alloc: Global,
     passed: &mut Passed<L, &mut V::Called>,
@@ -212,6 +221,7 @@ where
     Src: Source<Item = S::From>,
     L: Positional<From = S::To> + Drop,
     V: Visits<Item = L::To>,
+    C: Cancel + Drop,
     R: Clock + Threads + Wait + Sync,
     requires fresh { Src.given source ≡ 0 }
     requires is_called { S.is_called steps }
@@ -224,24 +234,25 @@ where
     requires may_call { V.is_called }
     requires may_call_in_one_way { (a b : V.is_called) → a ≡ b }
     ensures degree { is_degree settings.degree ≡ false → result ≡ Err Degree }
+    ensures asked { AskedFor (WasLetBy C.asks settings.token) result }
     ensures same { passed.new.to.ghost_name ≡ passed.old.to.ghost_name }
     ensures touched { Touched V.takes V.refuses passed.old.to.now passed.new.to.now }
     ensures ran { (f : S.From → Option S.To) → ((x : S.From) → S.makes steps x (f x)) → (g : List S.To → List L.To) (d : List S.To → Bool)
-        → L.means passed.old.later g d → Ran V.takes V.refuses settings.degree settings.growth
+        → L.means passed.old.later g d → Ran V.takes V.refuses (WasStoppedBy C.asks settings.token) settings.degree settings.growth
         (left_trace f g d (Src.whole source)).items (left_trace f g d (Src.whole source)).ending passed.old.to.now result passed.new.to.now }
 {
-    pass_by_threads::<Src, S, L, Lends<'_, V::Called, V>, R>(
+    pass_by_threads::<Src, S, L, Lends<'_, V::Called, V>, C, R>(
         source, steps, settings, rt, alloc, passed,
     )
 }
 
 /// Calls what is lent with each item that steps by position leave of what the steps before them make. The workers apply the steps, this
 /// thread calls.
-pub fn call_left_by_threads<Src, S, L, V, R>(
+pub fn call_left_by_threads<Src, S, L, V, C, R>(
     source: Src,
     steps: S,
     later: L,
-    settings: ByThreads,
+    settings: ByThreads<C>,
     rt: &R,
     alloc: Global,
     by: &mut V::Called,
@@ -251,6 +262,7 @@ where
     Src: Source<Item = S::From>,
     L: Positional<From = S::To> + Drop,
     V: Visits<Item = L::To>,
+    C: Cancel + Drop,
     R: Clock + Threads + Wait + Sync,
     requires fresh { Src.given source ≡ 0 }
     requires is_called { S.is_called steps }
@@ -263,8 +275,9 @@ where
     requires may_call { V.is_called }
     requires may_call_in_one_way { (a b : V.is_called) → a ≡ b }
     ensures degree { is_degree settings.degree ≡ false → result ≡ Err Degree }
+    ensures asked { AskedFor (WasLetBy C.asks settings.token) result }
     ensures calls { (f : S.From → Option S.To) → ((x : S.From) → S.makes steps x (f x)) → (g : List S.To → List L.To) (d : List S.To → Bool)
-        → L.means later g d → Ran V.takes V.refuses settings.degree settings.growth
+        → L.means later g d → Ran V.takes V.refuses (WasStoppedBy C.asks settings.token) settings.degree settings.growth
         (items_of (batches settings.merge (left_trace f g d (Src.whole source)))) (left_trace f g d (Src.whole source)).ending by.old result by.new }
 {
     let mut sink = CallEach::<V> { by };
@@ -272,11 +285,11 @@ where
 }
 
 /// Delivers what is left to a sink that calls.
-fn run_left_calls<Src, S, L, V, R>(
+fn run_left_calls<Src, S, L, V, C, R>(
     source: Src,
     steps: S,
     later: L,
-    settings: ByThreads,
+    settings: ByThreads<C>,
     rt: &R,
     alloc: Global,
     sink: &mut CallEach<'_, V>,
@@ -286,6 +299,7 @@ where
     Src: Source<Item = S::From>,
     L: Positional<From = S::To> + Drop,
     V: Visits<Item = L::To>,
+    C: Cancel + Drop,
     R: Clock + Threads + Wait + Sync,
     requires fresh { Src.given source ≡ 0 }
     requires is_called { S.is_called steps }
@@ -296,9 +310,10 @@ where
     requires then_in_one_way { (l : L) → L.in_one_way l }
     requires then_gives_one { (l : L) → L.gives_one l }
     ensures degree { is_degree settings.degree ≡ false → result ≡ Err Degree }
+    ensures asked { AskedFor (WasLetBy C.asks settings.token) result }
     ensures same { sink.new.by.ghost_name ≡ sink.old.by.ghost_name }
     ensures calls { (f : S.From → Option S.To) → ((x : S.From) → S.makes steps x (f x)) → (g : List S.To → List L.To) (d : List S.To → Bool)
-        → L.means later g d → Ran V.takes V.refuses settings.degree settings.growth
+        → L.means later g d → Ran V.takes V.refuses (WasStoppedBy C.asks settings.token) settings.degree settings.growth
         (items_of (batches settings.merge (left_trace f g d (Src.whole source)))) (left_trace f g d (Src.whole source)).ending
         sink.old.by.now result sink.new.by.now }
 {
@@ -326,7 +341,7 @@ where
     requires then_gives_one { (l : L) → L.gives_one l }
     requires may_call { V.is_called }
     ensures calls { (f : S.From → Option S.To) → ((x : S.From) → S.makes steps x (f x)) → (g : List S.To → List L.To) (d : List S.To → Bool)
-        → L.means later g d → Ran V.takes V.refuses 1 None (left_trace f g d (Src.whole source)).items
+        → L.means later g d → Ran V.takes V.refuses ⊥ 1 None (left_trace f g d (Src.whole source)).items
         (left_trace f g d (Src.whole source)).ending by.old result by.new }
     ensures alone { IfErr result EndedOrRefused }
 {
@@ -366,7 +381,7 @@ where
     requires may_call { V.is_called }
     ensures same { passed.new.to.ghost_name ≡ passed.old.to.ghost_name }
     ensures calls { (f : S.From → Option S.To) → ((x : S.From) → S.makes steps x (f x)) → (g : List S.To → List L.To) (d : List S.To → Bool)
-        → L.means passed.old.later g d → Ran V.takes V.refuses 1 None (left_trace f g d (Src.whole source)).items
+        → L.means passed.old.later g d → Ran V.takes V.refuses ⊥ 1 None (left_trace f g d (Src.whole source)).items
         (left_trace f g d (Src.whole source)).ending passed.old.to.now result passed.new.to.now }
     ensures alone { IfErr result EndedOrRefused }
 {

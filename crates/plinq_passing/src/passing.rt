@@ -3,7 +3,10 @@ ghost use Rattle.std.specs.Prelude.{◌≡◌, List, Bool, Option, Err, IfErr, N
 ghost use Rattle.plinq_ops.specs.Query.{is_degree};
 ghost use Rattle.plinq_passing.specs.declared.query_fault.QueryFault.TheVariants.{Degree};
 ghost use Rattle.plinq_passing.specs.Ran.{Ran, EndedOrRefused, left_trace};
+ghost use Rattle.plinq_passing.specs.Listed.{WasShort};
 ghost use Rattle.plinq_passing.specs.Passing.{Touched, told_over};
+ghost use Rattle.plinq_passing.specs.Told.{AskedFor};
+ghost use Rattle.plinq_stopping.specs.Asking.{WasLetBy, WasStoppedBy};
 
 use crate::by_threads::ByThreads;
 use crate::calling::{call_alone, call_by_threads};
@@ -12,6 +15,7 @@ use crate::plain::Plain;
 use crate::planning::{growth_of, plan_of};
 use crate::query_fault::QueryFault;
 use crate::visits::Visits;
+use plinq_merge::Cancel;
 use plinq_ops::MergeOption;
 use plinq_run::RunFault;
 use plinq_source::Source;
@@ -38,11 +42,29 @@ fn told_over(over: bool, outcome: Result<(), QueryFault>) -> Result<(), QueryFau
     }
 }
 
+/// Asks the token of a query that is over before it begins, and nothing else.
+fn ask_alone<T, C>(settings: ByThreads<C>, alloc: Global) -> Result<(), QueryFault>
+where
+    T: Copy,
+    C: Cancel + Drop,
+    ensures degree { is_degree settings.degree ≡ false → result ≡ Err Degree }
+    ensures asked { AskedFor (WasLetBy C.asks settings.token) result }
+    ensures short { IfErr result (WasShort (WasStoppedBy C.asks settings.token) settings.degree settings.growth) }
+{
+    let mut token = settings.token;
+    plan_of::<Plain<T>>(alloc, settings.degree)?;
+    growth_of(settings.growth)?;
+    if token.cancelled(0) {
+        return Err(QueryFault::Run(RunFault::Cancelled));
+    }
+    Ok(())
+}
+
 /// Passes on what steps by position make of what is made of a source's items, by threads. The source is left once they can make no more.
-pub fn pass_by_threads<Src, S, L, W, R>(
+pub fn pass_by_threads<Src, S, L, W, C, R>(
     source: Src,
     steps: S,
-    settings: ByThreads,
+    settings: ByThreads<C>,
     rt: &R,
     alloc: Global,
     passed: &mut Passed<L, W::Called>,
@@ -52,6 +74,7 @@ where
     Src: Source<Item = S::From>,
     L: Positional<From = S::To>,
     W: Visits<Item = L::To>,
+    C: Cancel + Drop,
     R: Clock + Threads + Wait + Sync,
     requires fresh { Src.given source ≡ 0 }
     requires is_called { S.is_called steps }
@@ -64,17 +87,16 @@ where
     requires may_call { W.is_called }
     requires may_call_in_one_way { (a b : W.is_called) → a ≡ b }
     ensures degree { is_degree settings.degree ≡ false → result ≡ Err Degree }
+    ensures asked { AskedFor (WasLetBy C.asks settings.token) result }
     ensures touched { Touched W.takes W.refuses passed.old.to passed.new.to }
     ensures passed { (f : S.From → Option S.To) → ((x : S.From) → S.makes steps x (f x)) → (g : List S.To → List L.To) (d : List S.To → Bool)
-        → L.means passed.old.later g d → Ran W.takes W.refuses settings.degree settings.growth
+        → L.means passed.old.later g d → Ran W.takes W.refuses (WasStoppedBy C.asks settings.token) settings.degree settings.growth
         (left_trace f g d (Src.whole source)).items (left_trace f g d (Src.whole source)).ending passed.old.to result passed.new.to }
 {
     if passed.later.has_ended() {
-        plan_of::<Plain<S::From>>(alloc, settings.degree)?;
-        growth_of(settings.growth)?;
-        return Ok(());
+        return ask_alone::<S::From, C>(settings, alloc);
     }
-    let outcome = call_by_threads::<Src, S, Passes<L, W>, R>(
+    let outcome = call_by_threads::<Src, S, Passes<L, W>, C, R>(
         source,
         steps,
         ByThreads {
@@ -109,7 +131,7 @@ where
     requires may_call { W.is_called }
     ensures touched { Touched W.takes W.refuses passed.old.to passed.new.to }
     ensures passed { (f : S.From → Option S.To) → ((x : S.From) → S.makes steps x (f x)) → (g : List S.To → List L.To) (d : List S.To → Bool)
-        → L.means passed.old.later g d → Ran W.takes W.refuses 1 None
+        → L.means passed.old.later g d → Ran W.takes W.refuses ⊥ 1 None
         (left_trace f g d (Src.whole source)).items (left_trace f g d (Src.whole source)).ending passed.old.to result passed.new.to }
     ensures alone { IfErr result EndedOrRefused }
 {

@@ -2,6 +2,7 @@
 ghost use Rattle.std.specs.Prelude.{◌≡◌, [], true, false, None, Err, IfErr, IfOk};
 ghost use Rattle.plinq_ops.specs.Query.{is_degree};
 ghost use Rattle.plinq_run.specs.Aggregates.{Aggregates};
+ghost use Rattle.plinq_stopping.specs.Outcomes.{AggregatesWith};
 ghost use Rattle.plinq_collect.specs.Telling.{LacksRoom};
 ghost use Rattle.plinq_passing.specs.declared.query_fault.QueryFault.TheVariants.{Degree};
 ghost use Rattle.plinq_passing.specs.Told.{NoGrowth, told_of};
@@ -10,9 +11,11 @@ use crate::query_fault::QueryFault;
 use plinq_aggregate::GrowingAggregator;
 use plinq_enumerator::Growth;
 use plinq_lambda::{Lambda, SharedLambda};
+use plinq_merge::Cancel;
 use plinq_ops::Query;
-use plinq_run::{AggregateFault, OpenGate, RunFault, TimedGate, aggregate, fold_sequentially};
+use plinq_run::{AggregateFault, OpenGate, RunFault, TimedGate, fold_sequentially};
 use plinq_source::{Ending, Source};
+use plinq_stopping::aggregate_with;
 use std::alloc::Global;
 use std::sync::Wait;
 use std::thread::Threads;
@@ -47,32 +50,37 @@ pub(crate) fn growth_of(numbers: Option<(u64, u64, u64)>) -> Result<Option<Growt
 }
 
 /// What an aggregator makes of the source's items, by chunks that grow so, else by how long they take.
-pub(crate) fn aggregate_of<L, S, A, R>(
+pub(crate) fn aggregate_of<L, S, A, C, R>(
     rt: &R,
     alloc: Global,
     plan: &Query<L>,
     source: S,
     growth: Option<Growth>,
+    token: &mut C,
     aggregator: &A,
 ) -> Result<A::Out, AggregateFault>
 where
     L: SharedLambda,
     S: Source<Item = L::Item>,
     A: GrowingAggregator<Item = L::Item>,
+    C: Cancel + Drop,
     R: Clock + Threads + Wait + Sync,
     requires fresh { S.given source ≡ 0 }
     requires planned { (plan.now.ops ≡ []) × (plan.now.ordered ≡ true) }
-    ensures { Aggregates (A.folding aggregator.now) (S.whole source) result }
+    ensures { AggregatesWith C.asks (A.folding aggregator.now) (λ u. u ≡ S.whole source) token.old result token.new }
 {
     match growth {
-        Some(growth) => aggregate(rt, alloc, plan, source, growth, &OpenGate, aggregator),
-        None => aggregate(
+        Some(growth) => aggregate_with(
+            rt, alloc, plan, source, growth, &OpenGate, token, aggregator,
+        ),
+        None => aggregate_with(
             rt,
             alloc,
             plan,
             source,
             Growth::DEFAULT,
             &TimedGate::new(rt),
+            token,
             aggregator,
         ),
     }

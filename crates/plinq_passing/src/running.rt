@@ -2,10 +2,11 @@
 ghost use Rattle.std.specs.Prelude.{◌≡◌, [], true, false, Option, Some, Err, IfErr, IfOk};
 ghost use Rattle.plinq_ops.specs.Batches.{batches};
 ghost use Rattle.plinq_ops.specs.Query.{is_degree, merge_in_force};
-ghost use Rattle.plinq_run.specs.Runs.{Runs};
-ghost use Rattle.plinq_mapped.specs.Mapped.{made_of};
+ghost use Rattle.plinq_stopping.specs.Asking.{WasLetBy, WasStoppedBy};
+ghost use Rattle.plinq_stopping.specs.Outcomes.{RunsMadeOfWith};
 ghost use Rattle.plinq_passing.specs.declared.query_fault.QueryFault.TheVariants.{Degree};
 ghost use Rattle.plinq_passing.specs.Ran.{Ran, steps_made, told_ran, told_first, told_found, told_not};
+ghost use Rattle.plinq_passing.specs.Told.{AskedFor};
 
 use crate::by_threads::ByThreads;
 use crate::made::Made;
@@ -15,12 +16,12 @@ use crate::query_fault::QueryFault;
 use plinq_enumerator::Growth;
 use plinq_groups::{MakeOf, MapEach};
 use plinq_lambda::SharedLambda;
-use plinq_mapped::run_mapped;
-use plinq_merge::Sink;
+use plinq_merge::{Cancel, Sink};
 use plinq_ops::{MergeOption, Query};
 use plinq_run::{OpenGate, RunFault, TimedGate};
 use plinq_source::{Ending, Source};
 use plinq_steps::Steps;
+use plinq_stopping::run_mapped_with;
 use std::alloc::Global;
 use std::sync::Wait;
 use std::thread::Threads;
@@ -43,13 +44,14 @@ fn delivering_plan_of<L: Drop>(
 }
 
 /// Delivers what is made of the source's items, by chunks that grow so, else by how long they take.
-fn run_of<L, S, M, K, R>(
+fn run_of<L, S, M, K, C, R>(
     rt: &R,
     alloc: Global,
     plan: &Query<L>,
     source: S,
     growth: Option<Growth>,
     mapping: &MapEach<M>,
+    token: &mut C,
     sink: &mut K,
 ) -> Result<Ending, RunFault>
 where
@@ -57,14 +59,18 @@ where
     S: Source<Item = L::Item>,
     M: MakeOf<Item = L::Item>,
     K: Sink<Item = M::Made>,
+    C: Cancel + Drop,
     R: Clock + Threads + Wait + Sync,
     requires fresh { S.given source ≡ 0 }
     requires planned { (plan.now.ops ≡ []) × (plan.now.ordered ≡ true) }
-    ensures { Runs K.accepts K.refuses (merge_in_force plan.now.merge) (made_of (M.makes mapping.now.make) (S.whole source)) sink.old sink.new result }
+    ensures { RunsMadeOfWith C.asks K.accepts K.refuses (merge_in_force plan.now.merge) (M.makes mapping.now.make) (λ u. u ≡ S.whole source)
+        token.old sink.old result token.new sink.new }
 {
     match growth {
-        Some(growth) => run_mapped(rt, alloc, plan, source, growth, &OpenGate, mapping, sink),
-        None => run_mapped(
+        Some(growth) => run_mapped_with(
+            rt, alloc, plan, source, growth, &OpenGate, mapping, token, sink,
+        ),
+        None => run_mapped_with(
             rt,
             alloc,
             plan,
@@ -72,6 +78,7 @@ where
             Growth::DEFAULT,
             &TimedGate::new(rt),
             mapping,
+            token,
             sink,
         ),
     }
@@ -90,10 +97,10 @@ fn told_ran(outcome: Result<Ending, RunFault>) -> Result<(), QueryFault>
 }
 
 /// Delivers what steps make of a source's items to a sink, in their order, by threads.
-pub fn run_steps_into<Src, S, K, R>(
+pub fn run_steps_into<Src, S, K, C, R>(
     source: Src,
     steps: S,
-    settings: ByThreads,
+    settings: ByThreads<C>,
     rt: &R,
     alloc: Global,
     sink: &mut K,
@@ -102,6 +109,7 @@ where
     S: Steps<From: Send + Sync, To: Send + Sync> + Sync + Drop,
     Src: Source<Item = S::From>,
     K: Sink<Item = S::To>,
+    C: Cancel + Drop,
     R: Clock + Threads + Wait + Sync,
     requires fresh { Src.given source ≡ 0 }
     requires is_called { S.is_called steps }
@@ -109,15 +117,24 @@ where
     requires gives { S.gives steps }
     requires gives_one { S.gives_one steps }
     ensures degree { is_degree settings.degree ≡ false → result ≡ Err Degree }
-    ensures ran { (f : S.From → Option S.To) → ((x : S.From) → S.makes steps x (f x)) → Ran K.accepts K.refuses settings.degree
+    ensures asked { AskedFor (WasLetBy C.asks settings.token) result }
+    ensures ran { (f : S.From → Option S.To) → ((x : S.From) → S.makes steps x (f x))
+        → Ran K.accepts K.refuses (WasStoppedBy C.asks settings.token) settings.degree
         settings.growth (batches settings.merge (steps_made f (Src.whole source))) (Src.whole source).ending sink.old result sink.new }
 {
-    let plan = delivering_plan_of::<Plain<S::From>>(alloc, settings.degree, settings.merge)?;
-    let growth = growth_of(settings.growth)?;
+    let ByThreads {
+        degree,
+        growth,
+        merge,
+        token,
+    } = settings;
+    let mut token = token;
+    let plan = delivering_plan_of::<Plain<S::From>>(alloc, degree, merge)?;
+    let growth = growth_of(growth)?;
     let mapping = MapEach {
         make: Made::of(&steps),
     };
-    told_ran(run_of(rt, alloc, &plan, source, growth, &mapping, sink))
+    told_ran(run_of(rt, alloc, &plan, source, growth, &mapping, &mut token, sink))
 }
 
 /// What came first to a sink that refuses once it has come.

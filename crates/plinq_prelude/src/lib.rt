@@ -26,3 +26,4 @@ pub use plinq_source::{
     ConcatSource, Ending, ListSource, OutOfMemory, RangeSource, RepeatSource, Source, SourceFault,
     Step, TextSource,
 };
+pub use plinq_stopping::aggregate_with;

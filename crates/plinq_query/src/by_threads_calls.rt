@@ -7,13 +7,15 @@ ghost use Rattle.plinq_groups.specs.Groups.{grouping};
 ghost use Rattle.plinq_groups.specs.Others.{of_field};
 ghost use Rattle.plinq_ops.specs.Query.{is_degree};
 ghost use Rattle.plinq_passing.specs.declared.query_fault.QueryFault.TheVariants.{Degree};
-ghost use Rattle.plinq_passing.specs.Told.{HasNone};
+ghost use Rattle.plinq_passing.specs.Told.{AskedFor, HasNone};
+ghost use Rattle.plinq_stopping.specs.Asking.{WasLetBy, WasStoppedBy};
 
 use crate::count_of::{CountOf, has_few};
 use crate::pairs::{FirstOf, SecondOf};
 use crate::query::Query;
 use plinq_aggregate::GrowingAggregator;
 use plinq_groups::{By, Collect, GroupBy, Groups};
+use plinq_merge::Cancel;
 use plinq_passing::{ByThreads, QueryFault, aggregate_steps};
 use plinq_source::Source;
 use plinq_steps::Steps;
@@ -24,10 +26,11 @@ use std::sync::Wait;
 use std::thread::Threads;
 use std::time::Clock;
 
-impl<Src, S> Query<Src, S, ByThreads>
+impl<Src, S, C> Query<Src, S, ByThreads<C>>
 where
     S: Steps<From: Send + Sync, To: Send + Sync> + Sync + Drop,
     Src: Source<Item = S::From>,
+    C: Cancel + Drop,
 {
     /// The aggregate of what the steps make of the source's items, in their order (.NET's `Aggregate`, rayon's `fold` and
     /// `reduce`). The workers fold what they make.
@@ -47,10 +50,11 @@ where
         requires gives { S.gives self.steps }
         requires gives_one { S.gives_one self.steps }
         ensures degree { is_degree self.by.degree ≡ false → result ≡ Err Degree }
+        ensures asked { AskedFor (WasLetBy C.asks self.by.token) result }
         ensures value { (f : S.From → Option S.To) → ((x : S.From) → S.makes self.steps x (f x)) → MatchResult result
             (λ out. (out ≡ aggregate_value (A.folding aggregator) (filter_map f (Src.whole self.source).items))
             × ((Src.whole self.source).ending ≡ Some End))
-            (HasNone self.by.degree self.by.growth (Src.whole self.source)) }
+            (HasNone (WasStoppedBy C.asks self.by.token) self.by.degree self.by.growth (Src.whole self.source)) }
     {
         let Query { source, steps, by } = self;
         aggregate_steps(source, steps, by, rt, alloc, aggregator)
@@ -70,9 +74,10 @@ where
         requires gives { S.gives self.steps }
         requires gives_one { S.gives_one self.steps }
         ensures degree { is_degree self.by.degree ≡ false → result ≡ Err Degree }
+        ensures asked { AskedFor (WasLetBy C.asks self.by.token) result }
         ensures value { (f : S.From → Option S.To) → ((x : S.From) → S.makes self.steps x (f x)) → MatchResult result
             (λ list. (list.items ≡ filter_map f (Src.whole self.source).items) × ((Src.whole self.source).ending ≡ Some End))
-            (HasNone self.by.degree self.by.growth (Src.whole self.source)) }
+            (HasNone (WasStoppedBy C.asks self.by.token) self.by.degree self.by.growth (Src.whole self.source)) }
     {
         match self.aggregate(rt, alloc, Collect::new()) {
             Ok(list) => Ok(list.into_vec()),
@@ -94,20 +99,22 @@ where
         requires gives { S.gives self.steps }
         requires gives_one { S.gives_one self.steps }
         ensures degree { is_degree self.by.degree ≡ false → result ≡ Err Degree }
+        ensures asked { AskedFor (WasLetBy C.asks self.by.token) result }
         ensures value { (f : S.From → Option S.To) → ((x : S.From) → S.makes self.steps x (f x)) → MatchResult result
             (λ n. (n ≡ length (filter_map f (Src.whole self.source).items)) × ((Src.whole self.source).ending ≡ Some End))
-            (HasNone self.by.degree self.by.growth (Src.whole self.source)) }
+            (HasNone (WasStoppedBy C.asks self.by.token) self.by.degree self.by.growth (Src.whole self.source)) }
     {
         has_few(&self.source);
         self.aggregate(rt, alloc, CountOf(PhantomData))
     }
 }
 
-impl<Src, S, K, V> Query<Src, S, ByThreads>
+impl<Src, S, K, V, C> Query<Src, S, ByThreads<C>>
 where
     S: Steps<From: Send + Sync, To = (K, V)> + Sync + Drop,
     S::To: Send + Sync,
     Src: Source<Item = S::From>,
+    C: Cancel + Drop,
     K: Eq + Hash + Copy + Send + Sync,
     V: Copy + Send + Sync,
 {
@@ -132,10 +139,11 @@ where
         requires gives { S.gives self.steps }
         requires gives_one { S.gives_one self.steps }
         ensures degree { is_degree self.by.degree ≡ false → result ≡ Err Degree }
+        ensures asked { AskedFor (WasLetBy C.asks self.by.token) result }
         ensures value { (f : S.From → Option (K × V)) → ((x : S.From) → S.makes self.steps x (f x)) → MatchResult result
             (λ groups. (groups ≡ fold_of (grouping K.eq (λ p. p.0) (of_field (λ p. p.1) (A.folding each)))
             (filter_map f (Src.whole self.source).items)) × ((Src.whole self.source).ending ≡ Some End))
-            (HasNone self.by.degree self.by.growth (Src.whole self.source)) }
+            (HasNone (WasStoppedBy C.asks self.by.token) self.by.degree self.by.growth (Src.whole self.source)) }
     {
         self.aggregate(
             rt,

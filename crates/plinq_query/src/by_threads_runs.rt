@@ -7,9 +7,11 @@ ghost use Rattle.plinq_ops.specs.Batches.{batches};
 ghost use Rattle.plinq_ops.specs.Query.{is_degree};
 ghost use Rattle.plinq_passing.specs.declared.query_fault.QueryFault.TheVariants.{Degree};
 ghost use Rattle.plinq_passing.specs.Ran.{Ran, SearchFails, steps_made};
+ghost use Rattle.plinq_stopping.specs.Asking.{WasLetBy, WasStoppedBy};
+ghost use Rattle.plinq_passing.specs.Told.{AskedFor};
 
 use crate::query::Query;
-use plinq_merge::Sink;
+use plinq_merge::{Cancel, Sink};
 use plinq_ops::MergeOption;
 use plinq_passing::{
     ByThreads, KeepFirst, QueryFault, run_steps_into, told_first, told_found, told_not,
@@ -21,10 +23,11 @@ use std::sync::Wait;
 use std::thread::Threads;
 use std::time::Clock;
 
-impl<Src, S> Query<Src, S, ByThreads>
+impl<Src, S, C> Query<Src, S, ByThreads<C>>
 where
     S: Steps<From: Send + Sync, To: Send + Sync> + Sync + Drop,
     Src: Source<Item = S::From>,
+    C: Cancel + Drop,
 {
     /// Delivers what the steps make to a sink, in the order of the source and in batches as
     /// [`with_merge`](Query::with_merge) says. The sink is called on this thread while the workers go on.
@@ -43,7 +46,9 @@ where
         requires gives { S.gives self.steps }
         requires gives_one { S.gives_one self.steps }
         ensures degree { is_degree self.by.degree ≡ false → result ≡ Err Degree }
-        ensures ran { (f : S.From → Option S.To) → ((x : S.From) → S.makes self.steps x (f x)) → Ran K.accepts K.refuses self.by.degree
+        ensures asked { AskedFor (WasLetBy C.asks self.by.token) result }
+        ensures ran { (f : S.From → Option S.To) → ((x : S.From) → S.makes self.steps x (f x)) → Ran K.accepts K.refuses
+            (WasStoppedBy C.asks self.by.token) self.by.degree
             self.by.growth (batches self.by.merge (steps_made f (Src.whole self.source))) (Src.whole self.source).ending sink.old result sink.new }
     {
         let Query { source, steps, by } = self;
@@ -65,9 +70,11 @@ where
         requires gives { S.gives self.steps }
         requires gives_one { S.gives_one self.steps }
         ensures degree { is_degree self.by.degree ≡ false → result ≡ Err Degree }
+        ensures asked { AskedFor (WasLetBy C.asks self.by.token) result }
         ensures value { (f : S.From → Option S.To) → ((x : S.From) → S.makes self.steps x (f x)) → MatchResult result
             (λ o. (o ≡ first_of (filter_map f (Src.whole self.source).items)) × (o ≡ None → (Src.whole self.source).ending ≡ Some End))
-            (SearchFails (first_of (filter_map f (Src.whole self.source).items) ≡ None) self.by.degree self.by.growth (Src.whole self.source)) }
+            (SearchFails (first_of (filter_map f (Src.whole self.source).items) ≡ None)
+            (WasStoppedBy C.asks self.by.token) self.by.degree self.by.growth (Src.whole self.source)) }
     {
         let mut keeps = KeepFirst { item: None };
         let outcome = self
@@ -96,9 +103,11 @@ where
         requires gives { S.gives self.steps }
         requires gives_one { S.gives_one self.steps }
         ensures degree { is_degree self.by.degree ≡ false → result ≡ Err Degree }
+        ensures asked { AskedFor (WasLetBy C.asks self.by.token) result }
         ensures value { (f : S.From → Option S.To) → ((x : S.From) → S.makes self.steps x (f x)) → MatchResult result
             (λ o. (o ≡ first_of (drop position (filter_map f (Src.whole self.source).items))) × (o ≡ None → (Src.whole self.source).ending ≡ Some End))
-            (SearchFails (first_of (drop position (filter_map f (Src.whole self.source).items)) ≡ None) self.by.degree self.by.growth (Src.whole self.source)) }
+            (SearchFails (first_of (drop position (filter_map f (Src.whole self.source).items)) ≡ None)
+            (WasStoppedBy C.asks self.by.token) self.by.degree self.by.growth (Src.whole self.source)) }
     {
         self.skip(position).first(rt, alloc)
     }
@@ -118,11 +127,12 @@ where
         requires gives { S.gives self.steps }
         requires gives_one { S.gives_one self.steps }
         ensures degree { is_degree self.by.degree ≡ false → result ≡ Err Degree }
+        ensures asked { AskedFor (WasLetBy C.asks self.by.token) result }
         ensures value { (f : S.From → Option S.To) → ((x : S.From) → S.makes self.steps x (f x)) → MatchResult result
             (λ is. (is ≡ list_any (λ y. S.To.eq y item) (filter_map f (Src.whole self.source).items))
             × (is ≡ false → (Src.whole self.source).ending ≡ Some End))
             (SearchFails (list_any (λ y. S.To.eq y item) (filter_map f (Src.whole self.source).items) ≡ false)
-            self.by.degree self.by.growth (Src.whole self.source)) }
+            (WasStoppedBy C.asks self.by.token) self.by.degree self.by.growth (Src.whole self.source)) }
     {
         let Query { source, steps, by } = self;
         let equal = Query {
@@ -151,10 +161,12 @@ where
         requires gives { ((y : S.To) → (r : Bool) × F.post by y r) × S.gives self.steps }
         requires gives_one { ((y : S.To) (r q : Bool) → F.post by y r → F.post by y q → q ≡ r) × S.gives_one self.steps }
         ensures degree { is_degree self.by.degree ≡ false → result ≡ Err Degree }
+        ensures asked { AskedFor (WasLetBy C.asks self.by.token) result }
         ensures value { (f : S.From → Option S.To) → ((x : S.From) → S.makes self.steps x (f x)) → (p : S.To → Bool) → ((y : S.To) → F.post by y (p y))
             → MatchResult result
             (λ is. (is ≡ list_any p (filter_map f (Src.whole self.source).items)) × (is ≡ false → (Src.whole self.source).ending ≡ Some End))
-            (SearchFails (list_any p (filter_map f (Src.whole self.source).items) ≡ false) self.by.degree self.by.growth (Src.whole self.source)) }
+            (SearchFails (list_any p (filter_map f (Src.whole self.source).items) ≡ false)
+            (WasStoppedBy C.asks self.by.token) self.by.degree self.by.growth (Src.whole self.source)) }
     {
         self.select(by).contains(rt, alloc, true)
     }
@@ -175,10 +187,12 @@ where
         requires gives { ((y : S.To) → (r : Bool) × F.post by y r) × S.gives self.steps }
         requires gives_one { ((y : S.To) (r q : Bool) → F.post by y r → F.post by y q → q ≡ r) × S.gives_one self.steps }
         ensures degree { is_degree self.by.degree ≡ false → result ≡ Err Degree }
+        ensures asked { AskedFor (WasLetBy C.asks self.by.token) result }
         ensures value { (f : S.From → Option S.To) → ((x : S.From) → S.makes self.steps x (f x)) → (p : S.To → Bool) → ((y : S.To) → F.post by y (p y))
             → MatchResult result
             (λ is. (is ≡ list_all p (filter_map f (Src.whole self.source).items)) × (is ≡ true → (Src.whole self.source).ending ≡ Some End))
-            (SearchFails (list_all p (filter_map f (Src.whole self.source).items) ≡ true) self.by.degree self.by.growth (Src.whole self.source)) }
+            (SearchFails (list_all p (filter_map f (Src.whole self.source).items) ≡ true)
+            (WasStoppedBy C.asks self.by.token) self.by.degree self.by.growth (Src.whole self.source)) }
     {
         told_not(self.select(by).contains(rt, alloc, false))
     }

@@ -6,8 +6,11 @@ ghost use Rattle.plinq_ops.specs.Batches.{batches};
 ghost use Rattle.plinq_ops.specs.Query.{is_degree};
 ghost use Rattle.plinq_passing.specs.declared.query_fault.QueryFault.TheVariants.{Degree};
 ghost use Rattle.plinq_passing.specs.Ran.{Ran, EndedOrRefused, steps_made};
+ghost use Rattle.plinq_stopping.specs.Asking.{WasLetBy, WasStoppedBy};
+ghost use Rattle.plinq_passing.specs.Told.{AskedFor};
 
 use crate::query::{OneThread, Query};
+use plinq_merge::Cancel;
 use plinq_passing::{ByThreads, QueryFault, Tells, Tries, call_alone, call_by_threads};
 use plinq_source::Source;
 use plinq_steps::Steps;
@@ -16,10 +19,11 @@ use std::sync::Wait;
 use std::thread::Threads;
 use std::time::Clock;
 
-impl<Src, S> Query<Src, S, ByThreads>
+impl<Src, S, C> Query<Src, S, ByThreads<C>>
 where
     S: Steps<From: Send + Sync, To: Send + Sync> + Sync + Drop,
     Src: Source<Item = S::From>,
+    C: Cancel + Drop,
 {
     /// Calls a closure with each item that the steps make, one after another (C#'s `foreach` over a query). It is called on this
     /// thread, in the order of the source, while the workers go on; rayon's `for_each` calls on the workers' threads.
@@ -41,8 +45,9 @@ where
         requires may_call { (g : F) (y : S.To) → F.pre g y }
         requires may_call_in_one_way { (g : F) (y : S.To) (a b : F.pre g y) → a ≡ b }
         ensures degree { is_degree self.by.degree ≡ false → result ≡ Err Degree }
+        ensures asked { AskedFor (WasLetBy C.asks self.by.token) result }
         ensures calls { (f : S.From → Option S.To) → ((x : S.From) → S.makes self.steps x (f x)) → Ran (λ g y h. F.step g y tt h) (λ _ _ _ _. ⊥)
-            self.by.degree self.by.growth (items_of (batches self.by.merge (steps_made f (Src.whole self.source))))
+            (WasStoppedBy C.asks self.by.token) self.by.degree self.by.growth (items_of (batches self.by.merge (steps_made f (Src.whole self.source))))
             (Src.whole self.source).ending by.old result by.new }
     {
         let Query {
@@ -50,7 +55,7 @@ where
             steps,
             by: settings,
         } = self;
-        call_by_threads::<Src, S, Tells<S::To, F>, R>(source, steps, settings, rt, alloc, by)
+        call_by_threads::<Src, S, Tells<S::To, F>, C, R>(source, steps, settings, rt, alloc, by)
     }
 
     /// As [`Query::for_each`], with a closure that may return a code (rayon's `try_for_each`). It is called no more then.
@@ -70,8 +75,10 @@ where
         requires may_call { (g : F) (y : S.To) → F.pre g y }
         requires may_call_in_one_way { (g : F) (y : S.To) (a b : F.pre g y) → a ≡ b }
         ensures degree { is_degree self.by.degree ≡ false → result ≡ Err Degree }
+        ensures asked { AskedFor (WasLetBy C.asks self.by.token) result }
         ensures calls { (f : S.From → Option S.To) → ((x : S.From) → S.makes self.steps x (f x)) → Ran (λ g y h. F.step g y (Ok tt) h)
-            (λ g y code h. F.step g y (Err code) h) self.by.degree self.by.growth (items_of (batches self.by.merge (steps_made f (Src.whole self.source))))
+            (λ g y code h. F.step g y (Err code) h)
+            (WasStoppedBy C.asks self.by.token) self.by.degree self.by.growth (items_of (batches self.by.merge (steps_made f (Src.whole self.source))))
             (Src.whole self.source).ending by.old result by.new }
     {
         let Query {
@@ -79,7 +86,7 @@ where
             steps,
             by: settings,
         } = self;
-        call_by_threads::<Src, S, Tries<S::To, F>, R>(source, steps, settings, rt, alloc, by)
+        call_by_threads::<Src, S, Tries<S::To, F>, C, R>(source, steps, settings, rt, alloc, by)
     }
 }
 
@@ -104,7 +111,7 @@ where
         requires gives_one { S.gives_one self.steps }
         requires may_call { (g : F) (y : S.To) → F.pre g y }
         ensures calls { (f : S.From → Option S.To) → ((x : S.From) → S.makes self.steps x (f x)) → Ran (λ g y h. F.step g y tt h) (λ _ _ _ _. ⊥)
-            1 None (filter_map f (Src.whole self.source).items) (Src.whole self.source).ending by.old result by.new }
+            ⊥ 1 None (filter_map f (Src.whole self.source).items) (Src.whole self.source).ending by.old result by.new }
         ensures alone { IfErr result EndedOrRefused }
     {
         let Query { source, steps, .. } = self;
@@ -127,7 +134,7 @@ where
         requires gives_one { S.gives_one self.steps }
         requires may_call { (g : F) (y : S.To) → F.pre g y }
         ensures calls { (f : S.From → Option S.To) → ((x : S.From) → S.makes self.steps x (f x)) → Ran (λ g y h. F.step g y (Ok tt) h)
-            (λ g y code h. F.step g y (Err code) h) 1 None (filter_map f (Src.whole self.source).items) (Src.whole self.source).ending
+            (λ g y code h. F.step g y (Err code) h) ⊥ 1 None (filter_map f (Src.whole self.source).items) (Src.whole self.source).ending
             by.old result by.new }
         ensures alone { IfErr result EndedOrRefused }
     {

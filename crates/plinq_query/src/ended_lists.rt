@@ -7,10 +7,13 @@ ghost use Rattle.plinq_ops.specs.Query.{is_degree};
 ghost use Rattle.plinq_passing.specs.declared.query_fault.QueryFault.TheVariants.{Degree};
 ghost use Rattle.plinq_passing.specs.Listed.{WasShort, WasShortAlone};
 ghost use Rattle.plinq_passing.specs.Ran.{left_trace, steps_made};
+ghost use Rattle.plinq_stopping.specs.Asking.{WasLetBy, WasStoppedBy};
+ghost use Rattle.plinq_passing.specs.Told.{AskedFor};
 
 use crate::merged::Merged;
 use crate::query::{OneThread, Query};
 use plinq_groups::Collect;
+use plinq_merge::Cancel;
 use plinq_passing::{
     ByThreads, Folds, QueryFault, call_alone, call_by_threads, call_left_alone,
     call_left_by_threads, empty_list, told_list,
@@ -22,10 +25,11 @@ use std::sync::Wait;
 use std::thread::Threads;
 use std::time::Clock;
 
-impl<Src, S> Query<Src, S, ByThreads>
+impl<Src, S, C> Query<Src, S, ByThreads<C>>
 where
     S: Steps<From: Send + Sync, To: Send + Sync> + Sync + Drop,
     Src: Source<Item = S::From>,
+    C: Cancel + Drop,
 {
     /// All that the steps make before the source ends or refuses, in its order, and how it ended: a refusal withholds nothing, as it
     /// does in [`Query::to_vec`]. A fully buffered query has no item if it is refused.
@@ -50,9 +54,10 @@ where
         requires gives { S.gives self.steps }
         requires gives_one { S.gives_one self.steps }
         ensures degree { is_degree self.by.degree ≡ false → result ≡ Err Degree }
+        ensures asked { AskedFor (WasLetBy C.asks self.by.token) result }
         ensures value { (f : S.From → Option S.To) → ((x : S.From) → S.makes self.steps x (f x)) → MatchResult result
             (λ it. (it.0.items ≡ items_of (batches self.by.merge (steps_made f (Src.whole self.source)))) × ((Src.whole self.source).ending ≡ Some it.1))
-            (WasShort self.by.degree self.by.growth) }
+            (WasShort (WasStoppedBy C.asks self.by.token) self.by.degree self.by.growth) }
     {
         let Query {
             source,
@@ -60,7 +65,7 @@ where
             by: settings,
         } = self;
         let mut list = empty_list(alloc);
-        let outcome = call_by_threads::<Src, S, Folds<Collect<S::To>>, R>(
+        let outcome = call_by_threads::<Src, S, Folds<Collect<S::To>>, C, R>(
             source, steps, settings, rt, alloc, &mut list,
         );
         told_list(list, outcome)
@@ -95,10 +100,11 @@ where
     }
 }
 
-impl<Src, S, L> Merged<Src, S, ByThreads, L>
+impl<Src, S, L, C> Merged<Src, S, ByThreads<C>, L>
 where
     S: Steps<From: Send + Sync, To: Send + Sync> + Sync + Drop,
     Src: Source<Item = S::From>,
+    C: Cancel + Drop,
     L: Positional<From = S::To> + Drop,
     L::To: Send + Sync,
 {
@@ -124,15 +130,16 @@ where
         requires then_in_one_way { (l : L) → L.in_one_way l }
         requires then_gives_one { (l : L) → L.gives_one l }
         ensures degree { is_degree self.query.by.degree ≡ false → result ≡ Err Degree }
+        ensures asked { AskedFor (WasLetBy C.asks self.query.by.token) result }
         ensures value { (f : S.From → Option S.To) → ((x : S.From) → S.makes self.query.steps x (f x)) → (g : List S.To → List L.To)
             (d : List S.To → Bool) → L.means self.then g d → MatchResult result
             (λ it. (it.0.items ≡ items_of (batches self.query.by.merge (left_trace f g d (Src.whole self.query.source))))
             × ((left_trace f g d (Src.whole self.query.source)).ending ≡ Some it.1))
-            (WasShort self.query.by.degree self.query.by.growth) }
+            (WasShort (WasStoppedBy C.asks self.query.by.token) self.query.by.degree self.query.by.growth) }
     {
         let Merged { query, then } = self;
         let mut list = empty_list(alloc);
-        let outcome = call_left_by_threads::<Src, S, L, Folds<Collect<L::To>>, R>(
+        let outcome = call_left_by_threads::<Src, S, L, Folds<Collect<L::To>>, C, R>(
             query.source,
             query.steps,
             then,

@@ -135,7 +135,7 @@ where
             (λ o. (o ≡ first_of (left_of f g (Src.whole self.query.source))) × (o ≡ None
             → EndsUnless (decided_by f d (Src.whole self.query.source)) (Src.whole self.query.source)))
             (SearchFails ((first_of (left_of f g (Src.whole self.query.source)) ≡ None) × (decided_by f d (Src.whole self.query.source) ≡ false))
-            1 None (Src.whole self.query.source)) }
+            ⊥ 1 None (Src.whole self.query.source)) }
         ensures alone { IfErr result HasEnded }
     {
         let Merged { query, then } = self;

@@ -7,12 +7,15 @@ ghost use Rattle.plinq_collect.specs.ItemFoldings.{first_of};
 ghost use Rattle.plinq_ops.specs.Query.{is_degree};
 ghost use Rattle.plinq_passing.specs.declared.query_fault.QueryFault.TheVariants.{Degree};
 ghost use Rattle.plinq_passing.specs.Ran.{SearchFails, EndsUnless, decided_by, left_of};
+ghost use Rattle.plinq_stopping.specs.Asking.{WasLetBy, WasStoppedBy};
+ghost use Rattle.plinq_passing.specs.Told.{AskedFor};
 
 use crate::count_of::{CountOf, has_few};
 use crate::merged::Merged;
 use crate::pairs::{FirstOf, SecondOf};
 use plinq_aggregate::GrowingAggregator;
 use plinq_groups::{By, Collect, GroupBy, Groups};
+use plinq_merge::Cancel;
 use plinq_passing::{
     ByThreads, First, Folded, Folds, KeepFirst, Passed, QueryFault, pass_by_threads, told_first,
     told_folded,
@@ -26,10 +29,11 @@ use std::sync::Wait;
 use std::thread::Threads;
 use std::time::Clock;
 
-impl<Src, S, L> Merged<Src, S, ByThreads, L>
+impl<Src, S, L, C> Merged<Src, S, ByThreads<C>, L>
 where
     S: Steps<From: Send + Sync, To: Send + Sync> + Sync + Drop,
     Src: Source<Item = S::From>,
+    C: Cancel + Drop,
     L: Positional<From = S::To> + Drop,
 {
     /// The aggregate of what is left, in the order of the source (.NET's `Aggregate`). It is folded on this thread.
@@ -51,12 +55,13 @@ where
         requires then_in_one_way { (l : L) → L.in_one_way l }
         requires then_gives_one { (l : L) → L.gives_one l }
         ensures degree { is_degree self.query.by.degree ≡ false → result ≡ Err Degree }
+        ensures asked { AskedFor (WasLetBy C.asks self.query.by.token) result }
         ensures value { (f : S.From → Option S.To) → ((x : S.From) → S.makes self.query.steps x (f x)) → (g : List S.To → List L.To)
             (d : List S.To → Bool) → L.means self.then g d → MatchResult result
             (λ out. (out ≡ aggregate_value (A.folding aggregator) (left_of f g (Src.whole self.query.source)))
             × EndsUnless (decided_by f d (Src.whole self.query.source)) (Src.whole self.query.source))
             (SearchFails (decided_by f d (Src.whole self.query.source) ≡ false)
-            self.query.by.degree self.query.by.growth (Src.whole self.query.source)) }
+            (WasStoppedBy C.asks self.query.by.token) self.query.by.degree self.query.by.growth (Src.whole self.query.source)) }
     {
         let Merged { query, then } = self;
         let acc = aggregator.seed(alloc);
@@ -69,7 +74,7 @@ where
             },
             over: false,
         };
-        let outcome = pass_by_threads::<Src, S, L, Folds<A>, R>(
+        let outcome = pass_by_threads::<Src, S, L, Folds<A>, C, R>(
             query.source,
             query.steps,
             query.by,
@@ -99,12 +104,13 @@ where
         requires then_in_one_way { (l : L) → L.in_one_way l }
         requires then_gives_one { (l : L) → L.gives_one l }
         ensures degree { is_degree self.query.by.degree ≡ false → result ≡ Err Degree }
+        ensures asked { AskedFor (WasLetBy C.asks self.query.by.token) result }
         ensures value { (f : S.From → Option S.To) → ((x : S.From) → S.makes self.query.steps x (f x)) → (g : List S.To → List L.To)
             (d : List S.To → Bool) → L.means self.then g d → MatchResult result
             (λ list. (list.items ≡ left_of f g (Src.whole self.query.source))
             × EndsUnless (decided_by f d (Src.whole self.query.source)) (Src.whole self.query.source))
             (SearchFails (decided_by f d (Src.whole self.query.source) ≡ false)
-            self.query.by.degree self.query.by.growth (Src.whole self.query.source)) }
+            (WasStoppedBy C.asks self.query.by.token) self.query.by.degree self.query.by.growth (Src.whole self.query.source)) }
     {
         match self.aggregate(rt, alloc, Collect::new()) {
             Ok(list) => Ok(list.into_vec()),
@@ -130,12 +136,13 @@ where
         requires then_in_one_way { (l : L) → L.in_one_way l }
         requires then_gives_one { (l : L) → L.gives_one l }
         ensures degree { is_degree self.query.by.degree ≡ false → result ≡ Err Degree }
+        ensures asked { AskedFor (WasLetBy C.asks self.query.by.token) result }
         ensures value { (f : S.From → Option S.To) → ((x : S.From) → S.makes self.query.steps x (f x)) → (g : List S.To → List L.To)
             (d : List S.To → Bool) → L.means self.then g d → MatchResult result
             (λ n. (n ≡ length (left_of f g (Src.whole self.query.source)))
             × EndsUnless (decided_by f d (Src.whole self.query.source)) (Src.whole self.query.source))
             (SearchFails (decided_by f d (Src.whole self.query.source) ≡ false)
-            self.query.by.degree self.query.by.growth (Src.whole self.query.source)) }
+            (WasStoppedBy C.asks self.query.by.token) self.query.by.degree self.query.by.growth (Src.whole self.query.source)) }
     {
         has_few(&self.query.source);
         self.aggregate(rt, alloc, CountOf(PhantomData))
@@ -158,12 +165,13 @@ where
         requires then_in_one_way { (l : L) → L.in_one_way l }
         requires then_gives_one { (l : L) → L.gives_one l }
         ensures degree { is_degree self.query.by.degree ≡ false → result ≡ Err Degree }
+        ensures asked { AskedFor (WasLetBy C.asks self.query.by.token) result }
         ensures value { (f : S.From → Option S.To) → ((x : S.From) → S.makes self.query.steps x (f x)) → (g : List S.To → List L.To)
             (d : List S.To → Bool) → L.means self.then g d → MatchResult result
             (λ o. (o ≡ first_of (left_of f g (Src.whole self.query.source))) × (o ≡ None
             → EndsUnless (decided_by f d (Src.whole self.query.source)) (Src.whole self.query.source)))
             (SearchFails ((first_of (left_of f g (Src.whole self.query.source)) ≡ None) × (decided_by f d (Src.whole self.query.source) ≡ false))
-            self.query.by.degree self.query.by.growth (Src.whole self.query.source)) }
+            (WasStoppedBy C.asks self.query.by.token) self.query.by.degree self.query.by.growth (Src.whole self.query.source)) }
     {
         let Merged { query, then } = self;
         let mut passed = Passed {
@@ -171,7 +179,7 @@ where
             to: KeepFirst { item: None },
             over: false,
         };
-        let outcome = pass_by_threads::<Src, S, L, First<L::To>, R>(
+        let outcome = pass_by_threads::<Src, S, L, First<L::To>, C, R>(
             query.source,
             query.steps,
             query.by,
@@ -183,10 +191,11 @@ where
     }
 }
 
-impl<Src, S, L, K, V> Merged<Src, S, ByThreads, L>
+impl<Src, S, L, K, V, C> Merged<Src, S, ByThreads<C>, L>
 where
     S: Steps<From: Send + Sync, To: Send + Sync> + Sync + Drop,
     Src: Source<Item = S::From>,
+    C: Cancel + Drop,
     L: Positional<From = S::To, To = (K, V)> + Drop,
     L::To: Send + Sync,
     K: Eq + Hash + Copy + Send + Sync,
@@ -216,12 +225,13 @@ where
         requires then_in_one_way { (l : L) → L.in_one_way l }
         requires then_gives_one { (l : L) → L.gives_one l }
         ensures degree { is_degree self.query.by.degree ≡ false → result ≡ Err Degree }
+        ensures asked { AskedFor (WasLetBy C.asks self.query.by.token) result }
         ensures value { (f : S.From → Option S.To) → ((x : S.From) → S.makes self.query.steps x (f x)) → (g : List S.To → List (K × V))
             (d : List S.To → Bool) → L.means self.then g d → MatchResult result
             (λ groups. (groups ≡ fold_of (grouping K.eq (λ p. p.0) (of_field (λ p. p.1) (A.folding each))) (left_of f g (Src.whole self.query.source)))
             × EndsUnless (decided_by f d (Src.whole self.query.source)) (Src.whole self.query.source))
             (SearchFails (decided_by f d (Src.whole self.query.source) ≡ false)
-            self.query.by.degree self.query.by.growth (Src.whole self.query.source)) }
+            (WasStoppedBy C.asks self.query.by.token) self.query.by.degree self.query.by.growth (Src.whole self.query.source)) }
     {
         self.aggregate(
             rt,

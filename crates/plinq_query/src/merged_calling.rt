@@ -5,10 +5,12 @@ ghost use Rattle.plinq_ops.specs.Batches.{batches};
 ghost use Rattle.plinq_ops.specs.Query.{is_degree};
 ghost use Rattle.plinq_passing.specs.declared.query_fault.QueryFault.TheVariants.{Degree};
 ghost use Rattle.plinq_passing.specs.Ran.{Ran, EndedOrRefused, left_trace};
+ghost use Rattle.plinq_stopping.specs.Asking.{WasLetBy, WasStoppedBy};
+ghost use Rattle.plinq_passing.specs.Told.{AskedFor};
 
 use crate::merged::Merged;
 use crate::query::OneThread;
-use plinq_merge::Sink;
+use plinq_merge::{Cancel, Sink};
 use plinq_passing::{
     ByThreads, QueryFault, Tells, Tries, call_left_alone, call_left_by_threads, run_left_into,
 };
@@ -19,10 +21,11 @@ use std::sync::Wait;
 use std::thread::Threads;
 use std::time::Clock;
 
-impl<Src, S, L> Merged<Src, S, ByThreads, L>
+impl<Src, S, L, C> Merged<Src, S, ByThreads<C>, L>
 where
     S: Steps<From: Send + Sync, To: Send + Sync> + Sync + Drop,
     Src: Source<Item = S::From>,
+    C: Cancel + Drop,
     L: Positional<From = S::To> + Drop,
 {
     /// Delivers what is left to a sink, in the order of the source and in batches as [`with_merge`](Query::with_merge) says. The
@@ -44,8 +47,10 @@ where
         requires then_in_one_way { (l : L) → L.in_one_way l }
         requires then_gives_one { (l : L) → L.gives_one l }
         ensures degree { is_degree self.query.by.degree ≡ false → result ≡ Err Degree }
+        ensures asked { AskedFor (WasLetBy C.asks self.query.by.token) result }
         ensures ran { (f : S.From → Option S.To) → ((x : S.From) → S.makes self.query.steps x (f x)) → (g : List S.To → List L.To)
-            (d : List S.To → Bool) → L.means self.then g d → Ran K.accepts K.refuses self.query.by.degree self.query.by.growth
+            (d : List S.To → Bool) → L.means self.then g d → Ran K.accepts K.refuses
+            (WasStoppedBy C.asks self.query.by.token) self.query.by.degree self.query.by.growth
             (batches self.query.by.merge (left_trace f g d (Src.whole self.query.source)))
             (left_trace f g d (Src.whole self.query.source)).ending sink.old result sink.new }
     {
@@ -76,13 +81,15 @@ where
         requires may_call { (g : F) (y : L.To) → F.pre g y }
         requires may_call_in_one_way { (g : F) (y : L.To) (a b : F.pre g y) → a ≡ b }
         ensures degree { is_degree self.query.by.degree ≡ false → result ≡ Err Degree }
+        ensures asked { AskedFor (WasLetBy C.asks self.query.by.token) result }
         ensures calls { (f : S.From → Option S.To) → ((x : S.From) → S.makes self.query.steps x (f x)) → (g : List S.To → List L.To)
-            (d : List S.To → Bool) → L.means self.then g d → Ran (λ h y k. F.step h y tt k) (λ _ _ _ _. ⊥) self.query.by.degree
+            (d : List S.To → Bool) → L.means self.then g d → Ran (λ h y k. F.step h y tt k) (λ _ _ _ _. ⊥)
+            (WasStoppedBy C.asks self.query.by.token) self.query.by.degree
             self.query.by.growth (items_of (batches self.query.by.merge (left_trace f g d (Src.whole self.query.source))))
             (left_trace f g d (Src.whole self.query.source)).ending by.old result by.new }
     {
         let Merged { query, then } = self;
-        call_left_by_threads::<Src, S, L, Tells<L::To, F>, R>(
+        call_left_by_threads::<Src, S, L, Tells<L::To, F>, C, R>(
             query.source,
             query.steps,
             then,
@@ -113,13 +120,15 @@ where
         requires may_call { (g : F) (y : L.To) → F.pre g y }
         requires may_call_in_one_way { (g : F) (y : L.To) (a b : F.pre g y) → a ≡ b }
         ensures degree { is_degree self.query.by.degree ≡ false → result ≡ Err Degree }
+        ensures asked { AskedFor (WasLetBy C.asks self.query.by.token) result }
         ensures calls { (f : S.From → Option S.To) → ((x : S.From) → S.makes self.query.steps x (f x)) → (g : List S.To → List L.To)
             (d : List S.To → Bool) → L.means self.then g d → Ran (λ h y k. F.step h y (Ok tt) k) (λ h y code k. F.step h y (Err code) k)
-            self.query.by.degree self.query.by.growth (items_of (batches self.query.by.merge (left_trace f g d (Src.whole self.query.source))))
+            (WasStoppedBy C.asks self.query.by.token) self.query.by.degree self.query.by.growth (items_of (batches self.query.by.merge (left_trace f g d
+            (Src.whole self.query.source))))
             (left_trace f g d (Src.whole self.query.source)).ending by.old result by.new }
     {
         let Merged { query, then } = self;
-        call_left_by_threads::<Src, S, L, Tries<L::To, F>, R>(
+        call_left_by_threads::<Src, S, L, Tries<L::To, F>, C, R>(
             query.source,
             query.steps,
             then,
@@ -154,7 +163,7 @@ where
         requires then_gives_one { (l : L) → L.gives_one l }
         requires may_call { (g : F) (y : L.To) → F.pre g y }
         ensures calls { (f : S.From → Option S.To) → ((x : S.From) → S.makes self.query.steps x (f x)) → (g : List S.To → List L.To)
-            (d : List S.To → Bool) → L.means self.then g d → Ran (λ h y k. F.step h y tt k) (λ _ _ _ _. ⊥) 1 None
+            (d : List S.To → Bool) → L.means self.then g d → Ran (λ h y k. F.step h y tt k) (λ _ _ _ _. ⊥) ⊥ 1 None
             (left_trace f g d (Src.whole self.query.source)).items (left_trace f g d (Src.whole self.query.source)).ending by.old result by.new }
         ensures alone { IfErr result EndedOrRefused }
     {
@@ -181,7 +190,7 @@ where
         requires may_call { (g : F) (y : L.To) → F.pre g y }
         ensures calls { (f : S.From → Option S.To) → ((x : S.From) → S.makes self.query.steps x (f x)) → (g : List S.To → List L.To)
             (d : List S.To → Bool) → L.means self.then g d → Ran (λ h y k. F.step h y (Ok tt) k) (λ h y code k. F.step h y (Err code) k)
-            1 None (left_trace f g d (Src.whole self.query.source)).items (left_trace f g d (Src.whole self.query.source)).ending
+            ⊥ 1 None (left_trace f g d (Src.whole self.query.source)).items (left_trace f g d (Src.whole self.query.source)).ending
             by.old result by.new }
         ensures alone { IfErr result EndedOrRefused }
     {

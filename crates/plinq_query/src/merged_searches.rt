@@ -5,8 +5,11 @@ ghost use Rattle.plinq_collect.specs.ItemFoldings.{first_of};
 ghost use Rattle.plinq_ops.specs.Query.{is_degree};
 ghost use Rattle.plinq_passing.specs.declared.query_fault.QueryFault.TheVariants.{Degree};
 ghost use Rattle.plinq_passing.specs.Ran.{SearchFails, EndsUnless, decided_by, left_of};
+ghost use Rattle.plinq_stopping.specs.Asking.{WasLetBy, WasStoppedBy};
+ghost use Rattle.plinq_passing.specs.Told.{AskedFor};
 
 use crate::merged::Merged;
+use plinq_merge::Cancel;
 use plinq_passing::{ByThreads, QueryFault, told_found, told_not};
 use plinq_source::Source;
 use plinq_steps::{Equal, Positional, Start, Steps, Then};
@@ -15,10 +18,11 @@ use std::sync::Wait;
 use std::thread::Threads;
 use std::time::Clock;
 
-impl<Src, S, L> Merged<Src, S, ByThreads, L>
+impl<Src, S, L, C> Merged<Src, S, ByThreads<C>, L>
 where
     S: Steps<From: Send + Sync, To: Send + Sync> + Sync + Drop,
     Src: Source<Item = S::From>,
+    C: Cancel + Drop,
     L: Positional<From = S::To> + Drop,
 {
     /// The item that is left at a position, the first of them at 0, if there is one (.NET's `ElementAtOrDefault`, Rust's `nth`). The
@@ -44,13 +48,14 @@ where
         requires then_in_one_way { (l : L) → L.in_one_way l }
         requires then_gives_one { (l : L) → L.gives_one l }
         ensures degree { is_degree self.query.by.degree ≡ false → result ≡ Err Degree }
+        ensures asked { AskedFor (WasLetBy C.asks self.query.by.token) result }
         ensures value { (f : S.From → Option S.To) → ((x : S.From) → S.makes self.query.steps x (f x)) → (g : List S.To → List L.To)
             (d : List S.To → Bool) → L.means self.then g d → MatchResult result
             (λ o. (o ≡ first_of (drop position (left_of f g (Src.whole self.query.source))))
             × (o ≡ None → EndsUnless (decided_by f d (Src.whole self.query.source)) (Src.whole self.query.source)))
             (SearchFails ((first_of (drop position (left_of f g (Src.whole self.query.source))) ≡ None)
             × (decided_by f d (Src.whole self.query.source) ≡ false))
-            self.query.by.degree self.query.by.growth (Src.whole self.query.source)) }
+            (WasStoppedBy C.asks self.query.by.token) self.query.by.degree self.query.by.growth (Src.whole self.query.source)) }
     {
         self.skip(position).first(rt, alloc)
     }
@@ -73,13 +78,14 @@ where
         requires then_in_one_way { (l : L) → L.in_one_way l }
         requires then_gives_one { (l : L) → L.gives_one l }
         ensures degree { is_degree self.query.by.degree ≡ false → result ≡ Err Degree }
+        ensures asked { AskedFor (WasLetBy C.asks self.query.by.token) result }
         ensures value { (f : S.From → Option S.To) → ((x : S.From) → S.makes self.query.steps x (f x)) → (g : List S.To → List L.To)
             (d : List S.To → Bool) → L.means self.then g d → MatchResult result
             (λ is. (is ≡ list_any (λ y. L.To.eq y item) (left_of f g (Src.whole self.query.source)))
             × (is ≡ false → EndsUnless (decided_by f d (Src.whole self.query.source)) (Src.whole self.query.source)))
             (SearchFails ((list_any (λ y. L.To.eq y item) (left_of f g (Src.whole self.query.source)) ≡ false)
             × (decided_by f d (Src.whole self.query.source) ≡ false))
-            self.query.by.degree self.query.by.growth (Src.whole self.query.source)) }
+            (WasStoppedBy C.asks self.query.by.token) self.query.by.degree self.query.by.growth (Src.whole self.query.source)) }
     {
         let equal = Merged {
             query: self.query,
@@ -116,13 +122,14 @@ where
         requires may_call_in_one_way { (g : F) (y : L.To) (a b : F.pre g y) → a ≡ b }
         requires returns_one { (g : F) (y : L.To) (r q : Bool) → F.post g y r → F.post g y q → q ≡ r }
         ensures degree { is_degree self.query.by.degree ≡ false → result ≡ Err Degree }
+        ensures asked { AskedFor (WasLetBy C.asks self.query.by.token) result }
         ensures value { (f : S.From → Option S.To) → ((x : S.From) → S.makes self.query.steps x (f x)) → (g : List S.To → List L.To)
             (d : List S.To → Bool) → L.means self.then g d → (p : L.To → Bool) → ((y : L.To) → F.post by y (p y)) → MatchResult result
             (λ is. (is ≡ list_any p (left_of f g (Src.whole self.query.source)))
             × (is ≡ false → EndsUnless (decided_by f d (Src.whole self.query.source)) (Src.whole self.query.source)))
             (SearchFails ((list_any p (left_of f g (Src.whole self.query.source)) ≡ false)
             × (decided_by f d (Src.whole self.query.source) ≡ false))
-            self.query.by.degree self.query.by.growth (Src.whole self.query.source)) }
+            (WasStoppedBy C.asks self.query.by.token) self.query.by.degree self.query.by.growth (Src.whole self.query.source)) }
     {
         self.select(by).contains(rt, alloc, true)
     }
@@ -149,13 +156,14 @@ where
         requires may_call_in_one_way { (g : F) (y : L.To) (a b : F.pre g y) → a ≡ b }
         requires returns_one { (g : F) (y : L.To) (r q : Bool) → F.post g y r → F.post g y q → q ≡ r }
         ensures degree { is_degree self.query.by.degree ≡ false → result ≡ Err Degree }
+        ensures asked { AskedFor (WasLetBy C.asks self.query.by.token) result }
         ensures value { (f : S.From → Option S.To) → ((x : S.From) → S.makes self.query.steps x (f x)) → (g : List S.To → List L.To)
             (d : List S.To → Bool) → L.means self.then g d → (p : L.To → Bool) → ((y : L.To) → F.post by y (p y)) → MatchResult result
             (λ is. (is ≡ list_all p (left_of f g (Src.whole self.query.source)))
             × (is ≡ true → EndsUnless (decided_by f d (Src.whole self.query.source)) (Src.whole self.query.source)))
             (SearchFails ((list_all p (left_of f g (Src.whole self.query.source)) ≡ true)
             × (decided_by f d (Src.whole self.query.source) ≡ false))
-            self.query.by.degree self.query.by.growth (Src.whole self.query.source)) }
+            (WasStoppedBy C.asks self.query.by.token) self.query.by.degree self.query.by.growth (Src.whole self.query.source)) }
     {
         told_not(self.select(by).contains(rt, alloc, false))
     }

@@ -36,7 +36,7 @@ where
             × (o ≡ None → EndsUnless (decided_by f d (Src.whole self.query.source)) (Src.whole self.query.source)))
             (SearchFails ((first_of (drop position (left_of f g (Src.whole self.query.source))) ≡ None)
             × (decided_by f d (Src.whole self.query.source) ≡ false))
-            1 None (Src.whole self.query.source)) }
+            ⊥ 1 None (Src.whole self.query.source)) }
         ensures alone { IfErr result HasEnded }
     {
         self.skip(position).first()
@@ -63,7 +63,7 @@ where
             × (is ≡ false → EndsUnless (decided_by f d (Src.whole self.query.source)) (Src.whole self.query.source)))
             (SearchFails ((list_any (λ y. L.To.eq y item) (left_of f g (Src.whole self.query.source)) ≡ false)
             × (decided_by f d (Src.whole self.query.source) ≡ false))
-            1 None (Src.whole self.query.source)) }
+            ⊥ 1 None (Src.whole self.query.source)) }
         ensures alone { IfErr result HasEnded }
     {
         let equal = Merged {
@@ -103,7 +103,7 @@ where
             × (is ≡ false → EndsUnless (decided_by f d (Src.whole self.query.source)) (Src.whole self.query.source)))
             (SearchFails ((list_any p (left_of f g (Src.whole self.query.source)) ≡ false)
             × (decided_by f d (Src.whole self.query.source) ≡ false))
-            1 None (Src.whole self.query.source)) }
+            ⊥ 1 None (Src.whole self.query.source)) }
         ensures alone { IfErr result HasEnded }
     {
         self.select(by).contains(true)
@@ -133,7 +133,7 @@ where
             × (is ≡ true → EndsUnless (decided_by f d (Src.whole self.query.source)) (Src.whole self.query.source)))
             (SearchFails ((list_all p (left_of f g (Src.whole self.query.source)) ≡ true)
             × (decided_by f d (Src.whole self.query.source) ≡ false))
-            1 None (Src.whole self.query.source)) }
+            ⊥ 1 None (Src.whole self.query.source)) }
         ensures alone { IfErr result HasEnded }
     {
         told_not(self.select(by).contains(false))

@@ -29,7 +29,7 @@ where
         requires gives_one { S.gives_one self.steps }
         ensures value { (f : S.From → Option S.To) → ((x : S.From) → S.makes self.steps x (f x)) → MatchResult result
             (λ o. (o ≡ first_of (filter_map f (Src.whole self.source).items)) × (o ≡ None → (Src.whole self.source).ending ≡ Some End))
-            (SearchFails (first_of (filter_map f (Src.whole self.source).items) ≡ None) 1 None (Src.whole self.source)) }
+            (SearchFails (first_of (filter_map f (Src.whole self.source).items) ≡ None) ⊥ 1 None (Src.whole self.source)) }
         ensures alone { IfErr result HasEnded }
     {
         let mut keeps = KeepFirst { item: None };
@@ -51,7 +51,7 @@ where
         requires gives_one { S.gives_one self.steps }
         ensures value { (f : S.From → Option S.To) → ((x : S.From) → S.makes self.steps x (f x)) → MatchResult result
             (λ o. (o ≡ first_of (drop position (filter_map f (Src.whole self.source).items))) × (o ≡ None → (Src.whole self.source).ending ≡ Some End))
-            (SearchFails (first_of (drop position (filter_map f (Src.whole self.source).items)) ≡ None) 1 None (Src.whole self.source)) }
+            (SearchFails (first_of (drop position (filter_map f (Src.whole self.source).items)) ≡ None) ⊥ 1 None (Src.whole self.source)) }
         ensures alone { IfErr result HasEnded }
     {
         self.skip(position).first()
@@ -73,7 +73,7 @@ where
         ensures value { (f : S.From → Option S.To) → ((x : S.From) → S.makes self.steps x (f x)) → MatchResult result
             (λ is. (is ≡ list_any (λ y. S.To.eq y item) (filter_map f (Src.whole self.source).items))
             × (is ≡ false → (Src.whole self.source).ending ≡ Some End))
-            (SearchFails (list_any (λ y. S.To.eq y item) (filter_map f (Src.whole self.source).items) ≡ false) 1 None (Src.whole self.source)) }
+            (SearchFails (list_any (λ y. S.To.eq y item) (filter_map f (Src.whole self.source).items) ≡ false) ⊥ 1 None (Src.whole self.source)) }
         ensures alone { IfErr result HasEnded }
     {
         let Query { source, steps, by } = self;
@@ -104,7 +104,7 @@ where
         ensures value { (f : S.From → Option S.To) → ((x : S.From) → S.makes self.steps x (f x)) → (p : S.To → Bool) → ((y : S.To) → F.post by y (p y))
             → MatchResult result
             (λ is. (is ≡ list_any p (filter_map f (Src.whole self.source).items)) × (is ≡ false → (Src.whole self.source).ending ≡ Some End))
-            (SearchFails (list_any p (filter_map f (Src.whole self.source).items) ≡ false) 1 None (Src.whole self.source)) }
+            (SearchFails (list_any p (filter_map f (Src.whole self.source).items) ≡ false) ⊥ 1 None (Src.whole self.source)) }
         ensures alone { IfErr result HasEnded }
     {
         self.select(by).contains(true)
@@ -127,7 +127,7 @@ where
         ensures value { (f : S.From → Option S.To) → ((x : S.From) → S.makes self.steps x (f x)) → (p : S.To → Bool) → ((y : S.To) → F.post by y (p y))
             → MatchResult result
             (λ is. (is ≡ list_all p (filter_map f (Src.whole self.source).items)) × (is ≡ true → (Src.whole self.source).ending ≡ Some End))
-            (SearchFails (list_all p (filter_map f (Src.whole self.source).items) ≡ true) 1 None (Src.whole self.source)) }
+            (SearchFails (list_all p (filter_map f (Src.whole self.source).items) ≡ true) ⊥ 1 None (Src.whole self.source)) }
         ensures alone { IfErr result HasEnded }
     {
         told_not(self.select(by).contains(false))

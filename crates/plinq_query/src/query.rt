@@ -1,6 +1,7 @@
 ghost use Rattle.std.specs.Prelude.{◌≡◌, None, Some};
 ghost use Rattle.plinq_ops.specs.declared.merge_option.MergeOption.TheVariants.{Default};
 
+use plinq_merge::NeverCancel;
 use plinq_ops::MergeOption;
 use plinq_passing::ByThreads;
 use plinq_source::Source;
@@ -70,7 +71,7 @@ impl<Src, S: Steps, B> Query<Src, S, B> {
 
 impl<Src, S> Query<Src, S, OneThread> {
     /// Has the query run by threads, as many as [`with_degree`](Query::with_degree) says, else 4 (.NET's `AsParallel`).
-    pub fn as_parallel(self) -> Query<Src, S, ByThreads>
+    pub fn as_parallel(self) -> Query<Src, S, ByThreads<NeverCancel>>
         ensures { (result.source ≡ self.source) × (result.steps ≡ self.steps) × (result.by.degree ≡ 4) × (result.by.growth ≡ None)
             × (result.by.merge ≡ Default) }
     {
@@ -81,25 +82,22 @@ impl<Src, S> Query<Src, S, OneThread> {
                 degree: 4,
                 growth: None,
                 merge: MergeOption::Default,
+                token: NeverCancel,
             },
         }
     }
 }
 
-impl<Src, S> Query<Src, S, ByThreads> {
+impl<Src, S, C> Query<Src, S, ByThreads<C>> {
     /// How many workers the query has, from 1 to 64 (.NET's `WithDegreeOfParallelism`).
-    pub fn with_degree(self, degree: u64) -> Query<Src, S, ByThreads>
+    pub fn with_degree(self, degree: u64) -> Query<Src, S, ByThreads<C>>
         ensures { (result.source ≡ self.source) × (result.steps ≡ self.steps) × (result.by.degree ≡ degree) × (result.by.growth ≡ self.by.growth)
-            × (result.by.merge ≡ self.by.merge) }
+            × (result.by.merge ≡ self.by.merge) × (result.by.token ≡ self.by.token) }
     {
         Query {
             source: self.source,
             steps: self.steps,
-            by: ByThreads {
-                degree,
-                growth: self.by.growth,
-                merge: self.by.merge,
-            },
+            by: ByThreads { degree, ..self.by },
         }
     }
 
@@ -107,26 +105,25 @@ impl<Src, S> Query<Src, S, ByThreads> {
     /// Without this setting they grow by how long they take.
     ///
     /// Numbers that make no growth are refused when the query is run ([`Growth`](plinq_enumerator::Growth) says which).
-    pub fn with_growth(self, first: u64, repeat: u64, max: u64) -> Query<Src, S, ByThreads>
+    pub fn with_growth(self, first: u64, repeat: u64, max: u64) -> Query<Src, S, ByThreads<C>>
         ensures { (result.source ≡ self.source) × (result.steps ≡ self.steps) × (result.by.degree ≡ self.by.degree)
-            × (result.by.growth ≡ Some (first, repeat, max)) × (result.by.merge ≡ self.by.merge) }
+            × (result.by.growth ≡ Some (first, repeat, max)) × (result.by.merge ≡ self.by.merge) × (result.by.token ≡ self.by.token) }
     {
         Query {
             source: self.source,
             steps: self.steps,
             by: ByThreads {
-                degree: self.by.degree,
                 growth: Some((first, repeat, max)),
-                merge: self.by.merge,
+                ..self.by
             },
         }
     }
 
     /// In which batches a sink gets what is made (.NET's `WithMergeOptions`): in runs of 16 without this setting. FullyBuffered
     /// delivers nothing of a query that doesn't end well.
-    pub fn with_merge(self, option: MergeOption) -> Query<Src, S, ByThreads>
+    pub fn with_merge(self, option: MergeOption) -> Query<Src, S, ByThreads<C>>
         ensures { (result.source ≡ self.source) × (result.steps ≡ self.steps) × (result.by.degree ≡ self.by.degree)
-            × (result.by.growth ≡ self.by.growth) × (result.by.merge ≡ option) }
+            × (result.by.growth ≡ self.by.growth) × (result.by.merge ≡ option) × (result.by.token ≡ self.by.token) }
     {
         Query {
             source: self.source,
@@ -134,6 +131,35 @@ impl<Src, S> Query<Src, S, ByThreads> {
             by: ByThreads {
                 merge: option,
                 ..self.by
+            },
+        }
+    }
+
+    /// What may stop the query (.NET's `WithCancellation`): whichever call runs it asks the token, and once that has returned `true` the
+    /// call fails with [`Cancelled`](plinq_run::RunFault::Cancelled).
+    ///
+    /// The token is asked on the calling thread: before each batch that a sink gets, before what the workers made of a chunk is used,
+    /// and once more before the call returns. So a query of which nothing is left can be stopped as well. What was delivered by then is
+    /// the beginning of what the call would deliver. The workers finish the chunks that they have taken.
+    ///
+    /// ```text
+    /// let flag = CancelFlag::new();    // another thread calls flag.cancel()
+    /// let count = query.with_token(flag.token()).count(&rt, alloc)?;
+    /// ```
+    pub fn with_token<D>(self, token: D) -> Query<Src, S, ByThreads<D>>
+    where
+        C: Drop,
+        ensures { (result.source ≡ self.source) × (result.steps ≡ self.steps) × (result.by.degree ≡ self.by.degree)
+            × (result.by.growth ≡ self.by.growth) × (result.by.merge ≡ self.by.merge) × (result.by.token ≡ token) }
+    {
+        Query {
+            source: self.source,
+            steps: self.steps,
+            by: ByThreads {
+                degree: self.by.degree,
+                growth: self.by.growth,
+                merge: self.by.merge,
+                token,
             },
         }
     }

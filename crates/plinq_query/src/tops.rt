@@ -6,12 +6,14 @@ ghost use Rattle.plinq_groups.specs.Topped.{ranked_items};
 ghost use Rattle.plinq_ops.specs.Query.{is_degree};
 ghost use Rattle.plinq_passing.specs.declared.query_fault.QueryFault.TheVariants.{Degree};
 ghost use Rattle.plinq_passing.specs.Ran.{SearchFails, FailsAlone, EndsUnless, decided_by, left_of};
-ghost use Rattle.plinq_passing.specs.Told.{HasNone, HasNoneAlone};
+ghost use Rattle.plinq_passing.specs.Told.{AskedFor, HasNone, HasNoneAlone};
+ghost use Rattle.plinq_stopping.specs.Asking.{WasLetBy, WasStoppedBy};
 
 use crate::merged::Merged;
 use crate::pairs::FirstOf;
 use crate::query::{OneThread, Query};
 use plinq_groups::Top;
+use plinq_merge::Cancel;
 use plinq_passing::{ByThreads, QueryFault};
 use plinq_source::Source;
 use plinq_steps::{Positional, Steps};
@@ -20,11 +22,12 @@ use std::sync::Wait;
 use std::thread::Threads;
 use std::time::Clock;
 
-impl<Src, S, K, V> Query<Src, S, ByThreads>
+impl<Src, S, K, V, C> Query<Src, S, ByThreads<C>>
 where
     S: Steps<From: Send + Sync, To = (K, V)> + Sync + Drop,
     S::To: Send + Sync,
     Src: Source<Item = S::From>,
+    C: Cancel + Drop,
     K: Ord + Copy + Send + Sync,
     V: Copy + Send + Sync,
 {
@@ -43,10 +46,11 @@ where
         requires gives { S.gives self.steps }
         requires gives_one { S.gives_one self.steps }
         ensures degree { is_degree self.by.degree ≡ false → result ≡ Err Degree }
+        ensures asked { AskedFor (WasLetBy C.asks self.by.token) result }
         ensures value { (f : S.From → Option (K × V)) → ((x : S.From) → S.makes self.steps x (f x)) → MatchResult result
             (λ list. (list.items ≡ take count (ranked_items (λ p. p.0) K.cmp (filter_map f (Src.whole self.source).items)))
             × ((Src.whole self.source).ending ≡ Some End))
-            (HasNone self.by.degree self.by.growth (Src.whole self.source)) }
+            (HasNone (WasStoppedBy C.asks self.by.token) self.by.degree self.by.growth (Src.whole self.source)) }
     {
         let tops = Top {
             rank: FirstOf::new(),
@@ -95,10 +99,11 @@ where
     }
 }
 
-impl<Src, S, L, K, V> Merged<Src, S, ByThreads, L>
+impl<Src, S, L, K, V, C> Merged<Src, S, ByThreads<C>, L>
 where
     S: Steps<From: Send + Sync, To: Send + Sync> + Sync + Drop,
     Src: Source<Item = S::From>,
+    C: Cancel + Drop,
     L: Positional<From = S::To, To = (K, V)> + Drop,
     L::To: Send + Sync,
     K: Ord + Copy + Send + Sync,
@@ -121,12 +126,13 @@ where
         requires then_in_one_way { (l : L) → L.in_one_way l }
         requires then_gives_one { (l : L) → L.gives_one l }
         ensures degree { is_degree self.query.by.degree ≡ false → result ≡ Err Degree }
+        ensures asked { AskedFor (WasLetBy C.asks self.query.by.token) result }
         ensures value { (f : S.From → Option S.To) → ((x : S.From) → S.makes self.query.steps x (f x)) → (g : List S.To → List (K × V))
             (d : List S.To → Bool) → L.means self.then g d → MatchResult result
             (λ list. (list.items ≡ take count (ranked_items (λ p. p.0) K.cmp (left_of f g (Src.whole self.query.source))))
             × EndsUnless (decided_by f d (Src.whole self.query.source)) (Src.whole self.query.source))
             (SearchFails (decided_by f d (Src.whole self.query.source) ≡ false)
-            self.query.by.degree self.query.by.growth (Src.whole self.query.source)) }
+            (WasStoppedBy C.asks self.query.by.token) self.query.by.degree self.query.by.growth (Src.whole self.query.source)) }
     {
         let tops = Top {
             rank: FirstOf::new(),

@@ -19,7 +19,7 @@ returns g c =
           let same : (x : g.row.S-From.Denot) → ◌≡◌ {A = Option g.row.S-To.Denot} (answer_in (made.one x)) (f x) =
           λ x. sym (given-answer (made.one x) (f x) (subst (λ s. g.S.Steps.makes s x (f x)) (sym c.of-made.ensures) (makes x))) in
           rw c.told_alone.ensures
-          (subst (λ h. Ran takes refuses 1 None (filter_map h t.items) t.ending c.args.by.now (told_alone c.visit_alone.result) c.visit_alone.new.by)
+          (subst (λ h. Ran takes refuses ⊥ 1 None (filter_map h t.items) t.ending c.args.by.now (told_alone c.visit_alone.result) c.visit_alone.new.by)
           (fun_ext same) (ran-alone takes refuses _ t.ending c.args.by.now c.visit_alone.result c.visit_alone.new.by c.visit_alone.ensures));
       alone = rw c.told_alone.ensures (alone-told c.visit_alone.result);
     }

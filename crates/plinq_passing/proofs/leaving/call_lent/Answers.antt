@@ -12,7 +12,7 @@ returns g c =
           c.pass_alone.ensures.touched;
       calls = λ f makes h d means.
           let left = left_trace f h d (g.Src.Source.whole c.args.source) in
-          lent-ran g.V.Visits.takes g.V.Visits.refuses (λ s. s.now) (λ s. s.ghost_name) 1 None left.items left.ending c.args.passed.now.to
+          lent-ran g.V.Visits.takes g.V.Visits.refuses (λ s. s.now) (λ s. s.ghost_name) ⊥ 1 None left.items left.ending c.args.passed.now.to
           c.pass_alone.result c.pass_alone.new.passed.to (c.pass_alone.ensures.passed f makes h d means);
       alone = c.pass_alone.ensures.alone;
     }

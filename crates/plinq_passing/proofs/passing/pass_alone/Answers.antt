@@ -27,7 +27,7 @@ returns-clause-passed g c f makes h d means =
     let more : g.L.Positional.ended l ≡ false = search rules in
     rw c.told_over.ensures
     (passed-ran g.W.Visits.takes g.W.Visits.refuses g.L.Positional.turns g.L.Positional.ended g.L.Positional.means
-    (λ s. laws.goes_on s (c.requires.then_gives_one s)) laws.at_end laws.of_none 1 None (filter_map f t.items) t.ending c.args.passed.now
+    (λ s. laws.goes_on s (c.requires.then_gives_one s)) laws.at_end laws.of_none ⊥ 1 None (filter_map f t.items) t.ending c.args.passed.now
     c.call_alone-outcome.new.by h d more means c.call_alone-outcome.result
     (c.call_alone-outcome.ensures.calls f makes))
 
@@ -37,7 +37,7 @@ returns-clause-touched g c =
     let some = g.met.S.Steps.makes_some c.args.steps c.requires.gives in
     let ran = c.call_alone-outcome.ensures.calls (λ x. (some x).0) (λ x. (some x).1) in
     carried-touches g.W.Visits.takes g.W.Visits.refuses g.L.Positional.turns g.L.Positional.ended c.args.passed.now c.call_alone-outcome.new.by
-    (ran-touches _ _ 1 None (filter_map (λ x. (some x).0) t.items) t.ending c.args.passed.now c.call_alone-outcome.result c.call_alone-outcome.new.by ran)
+    (ran-touches _ _ ⊥ 1 None (filter_map (λ x. (some x).0) t.items) t.ending c.args.passed.now c.call_alone-outcome.result c.call_alone-outcome.new.by ran)
 
 pub returns-then-has_ended-clause-touched : goal.returns-then-has_ended-clause-touched
 returns-then-has_ended-clause-touched g c = ([], refl)

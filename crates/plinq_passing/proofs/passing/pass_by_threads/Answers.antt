@@ -1,11 +1,12 @@
 -- What is passed on is what the steps by position make of the list.
 use Rattle.std.specs.Prelude.{[], true, false}
 use Rattle.std.specs.List.{filter_map}
-use Rattle.std.proofs.Common.{rules, ◌≡◌, refl, ap, sym, subst}
+use Rattle.std.proofs.Common.{rules, ◌≡◌, refl, ap}
 use Rattle.std.specs.Coded.{Π_prop, ×_prop}
-use Rattle.plinq_merge.specs.Sending.{Leads}
+use Rattle.plinq_stopping.specs.Asking.{WasLetBy, WasStoppedBy}
 use Rattle.plinq_passing.specs.Ran.{ended_unless}
 use Rattle.plinq_passing.proofs.Carrying.{passed-batches}
+use Rattle.plinq_passing.proofs.Reaching.{asked-over, ran-none}
 use Rattle.plinq_passing.proofs.Touching.{ran-touches, carried-touches}
 use Rattle.plinq_passing.proofs.passing.pass_by_threads.Goals as goal
 
@@ -15,10 +16,9 @@ returns-then-has_ended-clause-passed g c f makes h d means =
     let t = g.Src.Source.whole c.args.source in
     let laws = g.met.L.Positional in
     let is : g.L.Positional.ended l ≡ true = search rules in
-    let end = laws.at_end l is h d means (filter_map f t.items) in (
-      subst (λ ys. Leads g.W.Visits.takes c.args.passed.now.to ys c.args.passed.now.to) (sym end.0) refl,
-      ap (λ is. ended_unless is t.ending) end.1,
-    )
+    let end = laws.at_end l is h d means (filter_map f t.items) in
+    ran-none g.W.Visits.takes g.W.Visits.refuses (WasStoppedBy g.C.Cancel.asks c.args.settings.token) c.args.settings.degree c.args.settings.growth _ _
+    c.args.passed.now.to end.0 (ap (λ is. ended_unless is t.ending) end.1) c.ask_alone.result c.ask_alone.ensures.short
 
 pub call_by_threads-outcome-requires-clause-may_call_in_one_way : goal.call_by_threads-outcome-requires-clause-may_call_in_one_way
 call_by_threads-outcome-requires-clause-may_call_in_one_way g c κs within =
@@ -33,7 +33,8 @@ returns-clause-passed g c f makes h d means =
     let more : g.L.Positional.ended l ≡ false = search rules in
     rw c.told_over.ensures
     (passed-batches g.W.Visits.takes g.W.Visits.refuses g.L.Positional.turns g.L.Positional.ended g.L.Positional.means
-    (λ s. laws.goes_on s (c.requires.then_gives_one s)) laws.at_end laws.of_none c.args.settings.degree c.args.settings.growth (filter_map f t.items) t.ending
+    (λ s. laws.goes_on s (c.requires.then_gives_one s)) laws.at_end laws.of_none (WasStoppedBy g.C.Cancel.asks c.args.settings.token) c.args.settings.degree
+    c.args.settings.growth (filter_map f t.items) t.ending
     c.args.passed.now c.call_by_threads-outcome.new.by h d more means c.call_by_threads-outcome.result
     (c.call_by_threads-outcome.ensures.calls f makes))
 
@@ -43,8 +44,15 @@ returns-clause-touched g c =
     let some = (g.met.S.Steps g.world.𝓛 g.world.𝓜 g.world.𝓡 ((λ s x. x), (λ x. x), (λ x. x), λ x. x)).makes_some c.args.steps c.requires.gives in
     let ran = c.call_by_threads-outcome.ensures.calls (λ x. (some x).0) (λ x. (some x).1) in
     carried-touches g.W.Visits.takes g.W.Visits.refuses g.L.Positional.turns g.L.Positional.ended c.args.passed.now c.call_by_threads-outcome.new.by
-    (ran-touches _ _ c.args.settings.degree c.args.settings.growth _ t.ending c.args.passed.now c.call_by_threads-outcome.result
+    (ran-touches _ _ (WasStoppedBy g.C.Cancel.asks c.args.settings.token) c.args.settings.degree c.args.settings.growth _ t.ending c.args.passed.now
+    c.call_by_threads-outcome.result
     c.call_by_threads-outcome.new.by ran)
 
 pub returns-then-has_ended-clause-touched : goal.returns-then-has_ended-clause-touched
 returns-then-has_ended-clause-touched g c = ([], refl)
+
+pub returns-clause-asked : goal.returns-clause-asked
+returns-clause-asked g c =
+    rw c.told_over.ensures
+    (asked-over (WasLetBy g.C.Cancel.asks c.args.settings.token) c.call_by_threads-outcome.new.by.over c.call_by_threads-outcome.result
+    c.call_by_threads-outcome.ensures.asked)

@@ -12,6 +12,6 @@ returns-clause-value g c f makes h d means p gives =
     let q = c.args.self.query in
     let t = g.Src.Source.whole q.source in
     let w = c.select.ensures in
-    (same-left 1 None t _ (d (filter_map f t.items) ≡ false) _ _ (left-true p (h (filter_map f t.items))) c.contains.result
+    (same-left ⊥ 1 None t _ (d (filter_map f t.items) ≡ false) _ _ (left-true p (h (filter_map f t.items))) c.contains.result
     (rw w.0 at (c.contains.ensures.value f (λ x. rw w.0 (makes x)) (λ xs. filter_map (λ y. selected p (Some y)) (h xs)) d
     (rw (w.1, w.2) (follows-by h d means _ (λ y. selected p (Some y)) (λ y. makes-selected (λ o. o ≡ Some y) _ p gives (Some y) refl))))))

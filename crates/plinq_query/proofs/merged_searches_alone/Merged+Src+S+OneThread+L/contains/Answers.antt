@@ -14,7 +14,7 @@ returns-clause-value g c f makes h d means =
     let t = g.Src.Source.whole q.source in
     let p : g.row.L-To.Denot → _ = λ y. g.L.To.PartialEq.eq y c.args.item in
     rw c.told_found.ensures
-    (found-left 1 None t _ (d (filter_map f t.items) ≡ false) _ _ (left-passed p (h (filter_map f t.items))) c.first.result
+    (found-left ⊥ 1 None t _ (d (filter_map f t.items) ≡ false) _ _ (left-passed p (h (filter_map f t.items))) c.first.result
     (c.first.ensures.value f makes (λ xs. filter_map (λ y. passed p (Some y)) (h xs)) d
     (follows-by h d means _ (λ y. passed p (Some y)) (λ y. makes-passed (λ o. o ≡ Some y) _ p (λ z. refl) (Some y) refl))))
 

@@ -13,7 +13,7 @@ returns g c =
     record {
       value = λ f makes p gives.
           rw c.told_not.ensures
-          (not-told 1 None t _ _ _ (any-false f p t.items) c.contains.result
+          (not-told ⊥ 1 None t _ _ _ (any-false f p t.items) c.contains.result
           (rw w.0 at (c.contains.ensures.value (λ x. selected p (f x))
           (λ x. rw (w.1, w.2) (makes-selected (g.S.Steps.makes q.steps x) _ p gives (f x) (makes x))))));
       alone = rw c.told_not.ensures (not-alone c.contains.result c.contains.ensures.alone);

@@ -11,7 +11,7 @@ returns g c =
     let w = c.select.ensures in
     record {
       value = λ f makes p gives.
-          found-same 1 None t _ _ _ (any-true f p t.items) c.contains.result
+          found-same ⊥ 1 None t _ _ _ (any-true f p t.items) c.contains.result
           (rw w.0 at (c.contains.ensures.value (λ x. selected p (f x))
           (λ x. rw (w.1, w.2) (makes-selected (g.S.Steps.makes q.steps x) _ p gives (f x) (makes x)))));
       alone = c.contains.ensures.alone;

@@ -14,7 +14,7 @@ returns g c =
     record {
       value = λ f makes.
           rw c.told_found.ensures
-          (found-told 1 None t _ _ _ (any-passed f p t.items) c.first.result
+          (found-told ⊥ 1 None t _ _ _ (any-passed f p t.items) c.first.result
           (c.first.ensures.value (λ x. passed p (f x)) (λ x. makes-passed (g.S.Steps.makes q.steps x) _ p (λ y. refl) (f x) (makes x))));
       alone = rw c.told_found.ensures (found-alone c.first.result c.first.ensures.alone);
     }

@@ -14,7 +14,7 @@ returns g c =
     let w = c.skip.ensures in
     record {
       value = λ f makes.
-          first-past t (first_of (drop n (filter_map f t.items))) 1 None c.first.result
+          first-past t (first_of (drop n (filter_map f t.items))) ⊥ 1 None c.first.result
           (rw w.0 at (c.first.ensures.value f (λ x. rw w.0 (makes x)) (drop n) undecided (rw w.1 (past n))));
       alone = c.first.ensures.alone;
     }

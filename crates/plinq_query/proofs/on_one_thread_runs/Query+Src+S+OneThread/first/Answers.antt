@@ -11,7 +11,7 @@ returns g c =
     record {
       value = λ f makes.
           rw c.told_first.ensures
-          (first-singly 1 None t (filter_map f t.items) _ c.call_alone-outcome.result c.call_alone-outcome.new.by
+          (first-singly ⊥ 1 None t (filter_map f t.items) _ c.call_alone-outcome.result c.call_alone-outcome.new.by
           (c.call_alone-outcome.ensures.calls f makes));
       alone =
           rw c.told_first.ensures

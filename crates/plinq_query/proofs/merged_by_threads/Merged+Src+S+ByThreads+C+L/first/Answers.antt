@@ -1,0 +1,14 @@
+-- The first that comes is kept, and no other is asked for.
+use Rattle.std.specs.List.{filter_map}
+use Rattle.plinq_stopping.specs.Asking.{WasStoppedBy}
+use Rattle.plinq_passing.proofs.Accumulating.{first-passed}
+use Rattle.plinq_query.proofs.merged_by_threads.Merged+Src+S+ByThreads+C+L.first.Goals as goal
+
+pub returns-clause-value : goal.returns-clause-value
+returns-clause-value g c f makes h d means =
+    let q = c.args.self.query in
+    let t = g.Src.Source.whole q.source in
+    rw c.told_first.ensures
+    (first-passed t (h (filter_map f t.items)) (d (filter_map f t.items)) _ (WasStoppedBy g.C.Cancel.asks q.by.token) q.by.degree q.by.growth
+    c.pass_by_threads-outcome.result c.pass_by_threads-outcome.new.passed.to
+    (c.pass_by_threads-outcome.ensures.passed f makes h d means))
