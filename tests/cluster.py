@@ -15,6 +15,7 @@ import json
 import logging
 import os
 import pathlib
+import pickle
 import pty
 import random
 import re
@@ -205,7 +206,7 @@ async def by_coroutines(local):
 def calls(tests, local):
     """The call for who has a Dask client, beside what the program prints."""
     import plinq_shards
-    from plinq_shards import trouble
+    from plinq_shards import cluster, program, trouble
 
     for document in (
         {"version": 1, "source": {"range": [0, 1_000]}, "query": [ORDERED, ["filter", "even"], ["take", 7]]},
@@ -243,6 +244,11 @@ def calls(tests, local):
         said = why.line, why.status
     gone = f"plinq-cluster: scheduler {local.client.scheduler.address}: gone"
     tests.check("a call from Python: a client that is closed meanwhile", said == (gone, 5), said)
+    # (as a newer Dask pickles a graph, and its scheduler reads it, which has no file of this folder)
+    sent = pickle.dumps([cluster.Sent(it) for it in (program.answer, program.ending_of)])
+    reads = "import pickle, sys; print(*(it.__name__ for it in pickle.load(sys.stdin.buffer)))"
+    seen = subprocess.run([sys.executable, "-I", "-c", reads], input=sent, cwd="/", capture_output=True, timeout=HANGS)
+    tests.check("what workers call needs no file of the cluster's", (seen.returncode, seen.stdout) == (0, b"answer ending_of\n"), seen)
     seen = asyncio.run(by_coroutines(local))
     waits = "plinq-cluster: the client's own loop would wait for itself: call run by asyncio.to_thread"
     tests.check("a call from Python: an asynchronous client", seen == (waits, plinq_shards.Answer([1, 2], "end")), seen)

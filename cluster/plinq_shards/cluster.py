@@ -2,8 +2,11 @@
 import asyncio
 import collections
 import concurrent.futures
+import functools
+import pickle
 import time
 
+import cloudpickle
 import distributed
 
 from . import program
@@ -22,6 +25,25 @@ TICK = 0.25
 GONE = (asyncio.CancelledError, concurrent.futures.CancelledError, distributed.CancelledError, distributed.comm.CommClosedError)
 # How many bytes of items one answer brings.
 MOST_BYTES = 16 << 20
+
+
+class Sent:
+    """A function of `program` that workers call without this folder's files: it is pickled by value, whoever pickles it. A newer
+    Dask pickles whole graphs, of which it asks only where the graph's own class stands."""
+
+    def __init__(self, call):
+        self.call, self.__name__ = call, call.__name__
+        self.pickled = cloudpickle.dumps(call)
+
+    def __call__(self, *words):
+        return self.call(*words)
+
+    def __reduce__(self):
+        return pickle.loads, (self.pickled,)
+
+
+# One of each function, which Dask then pickles once.
+sent = functools.cache(Sent)
 
 
 class Asked:
@@ -67,7 +89,8 @@ class Cluster:
         if now < self.looked + 1:
             return
         self.looked = now
-        workers = self.client.scheduler_info()["workers"]
+        # (from 2025 on Dask says five of them unless it is asked for all; before, it takes no such word and says all)
+        workers = self.client.scheduler_info(n_workers=-1)["workers"]
         self.threads = max(1, sum(it["nthreads"] for it in workers.values()))
         self.progress.has_workers(set(workers))
         self.look_for_silence(workers, now)
@@ -110,7 +133,7 @@ class Cluster:
     def submit(self, call, words):
         """Has a worker call this, unless the client was closed meanwhile, for which Dask has no exception of its own."""
         try:
-            return self.client.submit(call, words, pure=False, retries=RETRIES)
+            return self.client.submit(sent(call), words, pure=False, retries=RETRIES)
         except Exception:
             if self.client.status in ("closing", "closed"):
                 raise own(f"{self.where}: gone") from None
