@@ -59,10 +59,32 @@ def own_keys():
         raise own(f"{error}: --local wants Python's cryptography (apt-get install python3-cryptography)") from None
 
 
+class Late(BaseException):
+    """A start that takes too long. Dask, which would wait for what it started, doesn't catch it."""
+
+
+@contextlib.contextmanager
+def within(seconds):
+    """Raises Late after so many seconds: not each wait of Dask's own has an end."""
+
+    def late(*_):
+        raise Late
+
+    before = signal.signal(signal.SIGALRM, late)
+    signal.alarm(seconds)
+    try:
+        yield
+    finally:
+        signal.alarm(0)
+        signal.signal(signal.SIGALRM, before)
+
+
 def started(count, security, folder, patience):
     """A cluster of so many workers of one thread each on this machine. One that hangs as it starts is given up as any other."""
+    longest = max(patience, PATIENCE_FOR_WORKERS) + count * SECONDS_TO_START
     try:
-        with without_interrupts():
+        # (the folder is a newer Dask's scheduler's as well)
+        with within(longest + PATIENCE), without_interrupts(), dask.config.set({"temporary-directory": folder}):
             return distributed.LocalCluster(
                 n_workers=count,
                 threads_per_worker=1,
@@ -72,8 +94,10 @@ def started(count, security, folder, patience):
                 worker_dashboard_address=HERE,
                 silence_logs=logging.CRITICAL,
                 local_directory=folder,
-                death_timeout=max(patience, PATIENCE_FOR_WORKERS) + count * SECONDS_TO_START,
+                death_timeout=longest,
             )
+    except Late:
+        raise own("a cluster can't be started on this machine: it takes too long") from None
     except Exception as error:
         # (what Dask raises after a system call that failed is of any type; of a worker that doesn't start it asserts that it runs)
         unsaid = "a worker doesn't start" if isinstance(error, (AssertionError, TimeoutError)) else None
