@@ -83,8 +83,7 @@ def started(count, security, folder, patience):
     """A cluster of so many workers of one thread each on this machine. One that hangs as it starts is given up as any other."""
     longest = max(patience, PATIENCE_FOR_WORKERS) + count * SECONDS_TO_START
     try:
-        # (the folder is a newer Dask's scheduler's as well)
-        with within(longest + PATIENCE), without_interrupts(), dask.config.set({"temporary-directory": folder}):
+        with within(longest + PATIENCE), without_interrupts():
             return distributed.LocalCluster(
                 n_workers=count,
                 threads_per_worker=1,
@@ -118,7 +117,8 @@ def end_processes():
 def local(count, patience=0):
     """Such a cluster, for as long as it is wanted."""
     security = own_keys()
-    with tempfile.TemporaryDirectory(prefix="plinq-cluster-", ignore_cleanup_errors=True) as folder:
+    # (the folder is a newer Dask's scheduler's as well, which may come late)
+    with tempfile.TemporaryDirectory(prefix="plinq-cluster-", ignore_cleanup_errors=True) as folder, dask.config.set({"temporary-directory": folder}):
         try:
             cluster = started(count, security, folder, patience)
             try:
