@@ -4,8 +4,10 @@ use plinq_enumerator::Growth;
 use plinq_groups::MapEach;
 use plinq_lambda::Formula;
 use plinq_mapped::run_mapped;
+use plinq_merge::NeverCancel;
 use plinq_ops::{Built, Query};
 use plinq_source::{Ending, RangeSource};
+use plinq_stopping::run_mapped_with;
 use plinq_testing::{KeepsBack, Seen, Taken, Watched};
 use std::alloc::Global;
 use std::sync::Wait;
@@ -26,8 +28,13 @@ fn query_of(alloc: Global, skips: bool) -> Built<Formula> {
     Ok(query)
 }
 
-/// Whether it was reported to the sink, until which the worker is held back, in a run that ended well.
-fn is_told<R: Clock + Threads + Wait + Sync>(rt: &R, alloc: Global, skips: bool) -> bool {
+/// Whether it was reported to the sink, until which the worker is held back, in a run that ended well, with a token or without one.
+fn is_told<R: Clock + Threads + Wait + Sync>(
+    rt: &R,
+    alloc: Global,
+    skips: bool,
+    has_token: bool,
+) -> bool {
     let (Ok(query), Ok(source)) = (query_of(alloc, skips), RangeSource::new(0, 4)) else {
         return false;
     };
@@ -40,22 +47,22 @@ fn is_told<R: Clock + Threads + Wait + Sync>(rt: &R, alloc: Global, skips: bool)
     let bits = MapEach {
         make: BitsOf { but: 9 },
     };
-    let ended = run_mapped(
-        rt,
-        alloc,
-        &query,
-        source,
-        Growth::DEFAULT,
-        &gate,
-        &bits,
-        &mut sink,
-    );
+    let growth = Growth::DEFAULT;
+    let ended = if has_token {
+        let token = &mut NeverCancel;
+        run_mapped_with(
+            rt, alloc, &query, source, growth, &gate, &bits, token, &mut sink,
+        )
+    } else {
+        run_mapped(rt, alloc, &query, source, growth, &gate, &bits, &mut sink)
+    };
     ended == Ok(Ending::End) && !gate.gave_up() && seen.rests.load(Ordering::SeqCst) > 0
 }
 
 #[test]
 fn a_sink_is_told_that_nothing_comes(rt: HostRuntime) {
     for skips in [false, true] {
-        assert!(rt; is_told(&rt, rt.alloc(), skips));
+        assert!(rt; is_told(&rt, rt.alloc(), skips, false));
+        assert!(rt; is_told(&rt, rt.alloc(), skips, true));
     }
 }
