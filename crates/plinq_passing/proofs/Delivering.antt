@@ -1,26 +1,20 @@
 -- What a run of what steps make says of the query.
-use Rattle.std.specs.Prelude.{◌≡◌, ℕ, List, [], Bool, true, Some, Option, Result, Ok, Err}
+use Rattle.std.specs.Prelude.{◌≡◌, ℕ, List, Bool, Some, Option, Result, Ok, Err}
 use Rattle.std.proofs.Common.{refl, ◌∙◌, ap, subst}
 use Rattle.std.proofs.Math.Path.{fun_ext}
 use Rattle.plinq_source.specs.declared.ending.Ending.{Ending}
 use Rattle.plinq_source.specs.declared.ending.Ending.TheVariants.{End, Refused, Fault}
 use Rattle.plinq_source.specs.Trace.{Trace}
-use Rattle.plinq_lambda.specs.Meaning.{Meaning}
-use Rattle.plinq_aggregate.specs.Folding.{Folding}
 use Rattle.plinq_ops.specs.declared.merge_option.MergeOption.{MergeOption}
 use Rattle.plinq_ops.specs.declared.merge_option.MergeOption.TheVariants.{Default, NotBuffered, AutoBuffered, FullyBuffered}
-use Rattle.plinq_ops.specs.declared.op.Op.{Op}
-use Rattle.plinq_ops.specs.Answer.{MayAnswer}
 use Rattle.plinq_ops.specs.Batches.{batches}
 use Rattle.plinq_ops.specs.Query.{merge_in_force}
 use Rattle.plinq_groups.specs.Mapping.{mapped_items, mapped_items-kept}
 use Rattle.plinq_mapped.specs.Mapped.{made_of, trace_at}
-use Rattle.plinq_run.specs.declared.aggregate_fault.AggregateFault.{AggregateFault}
-use Rattle.plinq_run.specs.declared.aggregate_fault.AggregateFault.TheVariants.{Ended as WasEnded, Run as WasRun}
 use Rattle.plinq_run.specs.declared.run_fault.RunFault.{RunFault}
 use Rattle.plinq_run.specs.declared.run_fault.RunFault.TheVariants.{Memory, Sink, Tickets, Thread, Incomplete, Cancelled}
 use Rattle.plinq_stopping.specs.Asking.{WasLetBy, WasStoppedBy}
-use Rattle.plinq_stopping.specs.Outcomes.{AggregatesWith, RunsMadeOfWith}
+use Rattle.plinq_stopping.specs.Outcomes.{RunsMadeOfWith}
 use Rattle.plinq_passing.specs.Ran.{Ran, steps_made, told_ran}
 use Rattle.plinq_passing.specs.Told.{AskedFor}
 
@@ -30,28 +24,6 @@ in-force Default v = refl
 in-force NotBuffered v = refl
 in-force AutoBuffered v = refl
 in-force FullyBuffered v = refl
-
--- a plan without an operator answers with its source
-pub planned-is : {L T : Type 0} (meaning : L → Meaning T) (ordered : Bool) (ops : List (Op L)) → ordered ≡ true → ops ≡ [] → (t u : Trace T)
-    → MayAnswer meaning ordered ops t u → u ≡ t
-planned-is {L} meaning ordered ops by_order none t u may =
-    subst (λ os. MayAnswer meaning true os t u) none (subst (λ o. MayAnswer meaning o ops t u) by_order may)
-
--- what is so of these answers is so of others that they are
-module _ {C : Type 0} (asks : C → ℕ → Bool → C → Type 0) {T : Type 0} (P Q : Trace T → Type 0) (on : (u : Trace T) → P u → Q u) (c c' : C) where
-  pub aggregate-weaker : {A O : Type 0} (f : Folding T A O) (r : Result O AggregateFault) → AggregatesWith asks f P c r c' → AggregatesWith asks f Q c r c'
-  aggregate-weaker f (Ok out) h = (h.0, on h.0 h.1, h.2, h.3)
-  aggregate-weaker f (Err (WasEnded e)) h = (h.0, on h.0 h.1, h.2, h.3)
-  aggregate-weaker f (Err (WasRun Cancelled)) h = h
-  aggregate-weaker f (Err (WasRun fault)) h = h
-
-  pub run-weaker : {K B : Type 0} (accepts : K → List B → K → Type 0) (refuses : K → List B → ℕ → K → Type 0) (option : MergeOption)
-      (makes : T → Result (Option B) ℕ) (s : K) (r : Result Ending RunFault) (s' : K)
-      → RunsMadeOfWith asks accepts refuses option makes P c s r c' s' → RunsMadeOfWith asks accepts refuses option makes Q c s r c' s'
-  run-weaker accepts refuses option makes s (Ok e) s' h = (h.0, on h.0 h.1, h.2, h.3)
-  run-weaker accepts refuses option makes s (Err Cancelled) s' h = (h.0, on h.0 h.1, h.2, h.3)
-  run-weaker accepts refuses option makes s (Err (Sink code)) s' h = (h.0, on h.0 h.1, h.2, h.3)
-  run-weaker accepts refuses option makes s (Err fault) s' h = (h.0, on h.0 h.1, h.2, h.3)
 
 module _ {K T B C : Type 0} (accepts : K → List B → K → Type 0) (refuses : K → List B → ℕ → K → Type 0) (asks : C → ℕ → Bool → C → Type 0)
     (makes : T → Result (Option B) ℕ) (option : MergeOption) (t : Trace T) (c c' : C) (s : K) where

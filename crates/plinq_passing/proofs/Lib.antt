@@ -5,7 +5,7 @@ mod Gathering
 mod Lending
 pub mod Listing
 pub mod OneByOne
-pub mod Reaching
+mod Reaching
 pub mod Searching
 mod Telling
 mod Touching

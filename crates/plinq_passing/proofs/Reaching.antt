@@ -1,68 +1,26 @@
 -- What is made of what was reported comes after its token was asked as well.
-use Rattle.std.specs.Prelude.{◌≡◌, refl, ⊤, ℕ, List, [], Bool, true, false, Option, Some, None, Result, Ok, Err, IfErr, MatchResult}
+use Rattle.std.specs.Prelude.{◌≡◌, refl, ⊤, ℕ, List, [], Bool, true, false, Option, Some, Result, Ok, Err, IfErr}
 use Rattle.std.proofs.Common.{sym, subst}
 use Rattle.plinq_source.specs.declared.ending.Ending.{Ending}
 use Rattle.plinq_source.specs.declared.ending.Ending.TheVariants.{End}
-use Rattle.plinq_aggregate.specs.Folding.{Folding}
 use Rattle.plinq_merge.specs.declared.delivery_fault.DeliveryFault.{DeliveryFault}
 use Rattle.plinq_merge.specs.declared.delivery_fault.DeliveryFault.TheVariants.{Memory as NoRoom, Sink as Refusal}
 use Rattle.plinq_merge.specs.Sending.{Leads}
 use Rattle.plinq_run.specs.declared.run_fault.RunFault.TheVariants.{Memory, Sink, Tickets, Thread, Incomplete, Cancelled}
 use Rattle.plinq_passing.specs.declared.query_fault.QueryFault.{QueryFault}
 use Rattle.plinq_passing.specs.declared.query_fault.QueryFault.TheVariants.{Degree, Growth, Ended, Run}
-use Rattle.plinq_passing.specs.Listed.{WasShort, listed}
-use Rattle.plinq_passing.specs.Passing.{Finishes, refusal_of, told_delivery, told_folded, told_over, told_sent}
-use Rattle.plinq_passing.specs.Ran.{Ran, told_first, told_found, told_not}
+use Rattle.plinq_passing.specs.Listed.{WasShort}
+use Rattle.plinq_passing.specs.Passing.{Finishes, refusal_of, told_delivery, told_over, told_sent}
+use Rattle.plinq_passing.specs.Ran.{Ran}
 use Rattle.plinq_passing.specs.Told.{AskedFor}
 
 module _ (Lets : Type 0) where
-  pub asked-first : {B : Type 0} (item : Option B) (r : Result ⊤ QueryFault) → AskedFor Lets r → AskedFor Lets (told_first item r)
-  asked-first item (Ok all) asked = asked
-  asked-first item (Err (Ended e)) asked = asked
-  asked-first item (Err (Run (Sink code))) asked = asked
-  asked-first item (Err fault) asked = tt
-
-  pub asked-found : {B : Type 0} (r : Result (Option B) QueryFault) → AskedFor Lets r → AskedFor Lets (told_found r)
-  asked-found (Ok o) asked = asked
-  asked-found (Err fault) asked = asked
-
-  pub asked-not : (r : Result Bool QueryFault) → AskedFor Lets r → AskedFor Lets (told_not r)
-  asked-not (Ok is) asked = asked
-  asked-not (Err fault) asked = asked
-
   pub asked-over : (over : Bool) (r : Result ⊤ QueryFault) → AskedFor Lets r → AskedFor Lets (told_over r over)
   asked-over true (Err (Run (Sink code))) asked = asked
   asked-over false (Err (Run (Sink code))) asked = asked
   asked-over over (Ok all) asked = asked
   asked-over over (Err (Ended e)) asked = asked
   asked-over over (Err fault) asked = tt
-
-  pub asked-folded : {T A O : Type 0} (f : Folding T A O) (acc : Option A) (r : Result ⊤ QueryFault) → AskedFor Lets r → AskedFor Lets (told_folded f r acc)
-  asked-folded f (Some acc) (Ok all) asked = asked
-  asked-folded f None (Ok all) asked = tt
-  asked-folded f acc (Err (Ended e)) asked = asked
-  asked-folded f acc (Err (Run (Sink code))) asked = tt
-  asked-folded f acc (Err fault) asked = tt
-
-  -- a list with its ending
-  pub asked-listed : {T : Type 0} (xs : Option (List T)) (r : Result ⊤ QueryFault) → AskedFor Lets r → AskedFor Lets (listed r xs)
-  asked-listed (Some xs) (Ok all) asked = asked
-  asked-listed None (Ok all) asked = tt
-  asked-listed (Some xs) (Err (Ended e)) asked = asked
-  asked-listed None (Err (Ended e)) asked = tt
-  asked-listed xs (Err (Run (Sink code))) asked = tt
-  asked-listed xs (Err fault) asked = tt
-
-  asked-err : (X Y : Type 0) (fault : QueryFault) → AskedFor {X = X} Lets (Err fault) → AskedFor {X = Y} Lets (Err fault)
-  asked-err X Y (Ended e) asked = asked
-  asked-err X Y (Run (Sink code)) asked = asked
-  asked-err X Y fault asked = tt
-
-  -- what stands for it
-  pub asked-as : {X Y : Type 0} (of : Y → X) (r : Result X QueryFault) → AskedFor Lets r → (told : Result Y QueryFault)
-      → MatchResult told (λ it. r ≡ Ok (of it)) (λ fault. r ≡ Err fault) → AskedFor Lets told
-  asked-as of r asked (Ok it) so = subst (AskedFor Lets) so asked
-  asked-as {X} {Y} of r asked (Err fault) so = asked-err X Y fault (subst (AskedFor Lets) so asked)
 
   -- what is held back goes out at last
   asked-sent : (how : Result ⊤ QueryFault) → AskedFor Lets how → Lets → (sent : Result (Option Ending) DeliveryFault) → AskedFor Lets (told_sent how sent)

@@ -1,5 +1,5 @@
 //! A list of all that came one by one, and how it ended.
-ghost use Rattle.std.specs.Prelude.{◌≡◌, Ok, Err, MatchResult, Some, [], IfSome};
+ghost use Rattle.std.specs.Prelude.{◌≡◌, Ok, Err, MatchResult, Some, []};
 ghost use Rattle.plinq_passing.specs.Listed.{listed};
 
 use crate::folds::Folded;
