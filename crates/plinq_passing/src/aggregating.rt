@@ -1,12 +1,13 @@
 //! The aggregate of what steps make of a source's items.
-ghost use Rattle.std.specs.Prelude.{◌≡◌, Option, false, Some, Err, MatchResult};
+ghost use Rattle.std.specs.Prelude.{◌≡◌, Option, false, Some, Err, MatchResult, true};
 ghost use Rattle.std.specs.List.{filter_map};
 ghost use Rattle.plinq_source.specs.declared.ending.Ending.TheVariants.{End};
 ghost use Rattle.plinq_aggregate.specs.Folding.{aggregate_value};
 ghost use Rattle.plinq_ops.specs.Query.{is_degree};
-ghost use Rattle.plinq_passing.specs.declared.query_fault.QueryFault.TheVariants.{Degree};
-ghost use Rattle.plinq_passing.specs.Told.{AskedFor, HasNone, HasNoneAlone};
+ghost use Rattle.plinq_passing.specs.declared.query_fault.QueryFault.TheVariants.{Degree, Growth as GrowthRefused};
+ghost use Rattle.plinq_passing.specs.Told.{AskedFor, CantGrow, HasNone, HasNoneAlone};
 ghost use Rattle.plinq_stopping.specs.Asking.{WasLetBy, WasStoppedBy};
+ghost use Rattle.plinq_enumerator.specs.declared.growth_fault.GrowthFault.{GrowthFault};
 
 use crate::by_threads::ByThreads;
 use crate::made::Made;
@@ -46,6 +47,7 @@ where
     requires gives_one { S.gives_one steps }
     ensures degree { is_degree settings.degree ≡ false → result ≡ Err Degree }
     ensures asked { AskedFor (WasLetBy C.asks settings.token) result }
+    ensures growth { (fault : GrowthFault) → is_degree settings.degree ≡ true → CantGrow settings.growth fault → result ≡ Err (GrowthRefused fault) }
     ensures value { (f : S.From → Option S.To) → ((x : S.From) → S.makes steps x (f x)) → MatchResult result
         (λ out. (out ≡ aggregate_value (A.folding aggregator) (filter_map f (Src.whole source).items))
         × ((Src.whole source).ending ≡ Some End))

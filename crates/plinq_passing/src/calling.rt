@@ -1,13 +1,14 @@
 //! The calls of something with what steps make, one after another.
-ghost use Rattle.std.specs.Prelude.{◌≡◌, Option, Err, IfErr, None, false};
+ghost use Rattle.std.specs.Prelude.{◌≡◌, Option, Err, IfErr, None, false, true};
 ghost use Rattle.std.specs.List.{filter_map};
 ghost use Rattle.plinq_collect.specs.Telling.{items_of};
 ghost use Rattle.plinq_ops.specs.Batches.{batches};
 ghost use Rattle.plinq_ops.specs.Query.{is_degree};
-ghost use Rattle.plinq_passing.specs.declared.query_fault.QueryFault.TheVariants.{Degree};
+ghost use Rattle.plinq_passing.specs.declared.query_fault.QueryFault.TheVariants.{Degree, Growth as GrowthRefused};
 ghost use Rattle.plinq_passing.specs.Ran.{Ran, EndedOrRefused, steps_made};
-ghost use Rattle.plinq_passing.specs.Told.{AskedFor};
+ghost use Rattle.plinq_passing.specs.Told.{AskedFor, CantGrow};
 ghost use Rattle.plinq_stopping.specs.Asking.{WasLetBy, WasStoppedBy};
+ghost use Rattle.plinq_enumerator.specs.declared.growth_fault.GrowthFault.{GrowthFault};
 
 use crate::alone::{told_alone, visit_alone};
 use crate::by_threads::ByThreads;
@@ -48,6 +49,7 @@ where
     requires may_call_in_one_way { (a b : V.is_called) → a ≡ b }
     ensures degree { is_degree settings.degree ≡ false → result ≡ Err Degree }
     ensures asked { AskedFor (WasLetBy C.asks settings.token) result }
+    ensures growth { (fault : GrowthFault) → is_degree settings.degree ≡ true → CantGrow settings.growth fault → result ≡ Err (GrowthRefused fault) }
     ensures calls { (f : S.From → Option S.To) → ((x : S.From) → S.makes steps x (f x))
         → Ran V.takes V.refuses (WasStoppedBy C.asks settings.token) settings.degree settings.growth
         (items_of (batches settings.merge (steps_made f (Src.whole source)))) (Src.whole source).ending by.old result by.new }
@@ -78,6 +80,7 @@ where
     requires gives_one { S.gives_one steps }
     ensures degree { is_degree settings.degree ≡ false → result ≡ Err Degree }
     ensures asked { AskedFor (WasLetBy C.asks settings.token) result }
+    ensures growth { (fault : GrowthFault) → is_degree settings.degree ≡ true → CantGrow settings.growth fault → result ≡ Err (GrowthRefused fault) }
     ensures same { sink.new.by.ghost_name ≡ sink.old.by.ghost_name }
     ensures calls { (f : S.From → Option S.To) → ((x : S.From) → S.makes steps x (f x))
         → Ran V.takes V.refuses (WasStoppedBy C.asks settings.token) settings.degree settings.growth

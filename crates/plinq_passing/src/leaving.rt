@@ -1,13 +1,14 @@
 //! The delivery of what steps by position leave, in batches or call by call.
-ghost use Rattle.std.specs.Prelude.{◌≡◌, List, [], Bool, Option, Err, IfErr, None, false};
+ghost use Rattle.std.specs.Prelude.{◌≡◌, List, [], Bool, Option, Err, IfErr, None, false, true};
 ghost use Rattle.plinq_collect.specs.Telling.{items_of};
 ghost use Rattle.plinq_ops.specs.Batches.{batches, batches_from};
 ghost use Rattle.plinq_ops.specs.Query.{is_degree};
-ghost use Rattle.plinq_passing.specs.declared.query_fault.QueryFault.TheVariants.{Degree};
-ghost use Rattle.plinq_passing.specs.Told.{AskedFor};
+ghost use Rattle.plinq_passing.specs.declared.query_fault.QueryFault.TheVariants.{Degree, Growth as GrowthRefused};
+ghost use Rattle.plinq_passing.specs.Told.{AskedFor, CantGrow};
 ghost use Rattle.plinq_stopping.specs.Asking.{WasLetBy, WasStoppedBy};
 ghost use Rattle.plinq_passing.specs.Ran.{Ran, EndedOrRefused, left_trace};
 ghost use Rattle.plinq_passing.specs.Passing.{Finishes, SendsLast, Touched};
+ghost use Rattle.plinq_enumerator.specs.declared.growth_fault.GrowthFault.{GrowthFault};
 
 use crate::by_threads::ByThreads;
 use crate::call_each::CallEach;
@@ -96,6 +97,7 @@ where
     requires then_gives_one { (l : L) → L.gives_one l }
     ensures degree { is_degree settings.degree ≡ false → result ≡ Err Degree }
     ensures asked { AskedFor (WasLetBy C.asks settings.token) result }
+    ensures growth { (fault : GrowthFault) → is_degree settings.degree ≡ true → CantGrow settings.growth fault → result ≡ Err (GrowthRefused fault) }
     ensures touched { Touched K.accepts K.refuses sink.old sink.new }
     ensures ran { (f : S.From → Option S.To) → ((x : S.From) → S.makes steps x (f x)) → (g : List S.To → List L.To) (d : List S.To → Bool)
         → L.means later g d → Ran K.accepts K.refuses (WasStoppedBy C.asks settings.token) settings.degree settings.growth (batches settings.merge
@@ -145,6 +147,7 @@ where
     requires begins { gathered.old.made.held.items ≡ [] }
     ensures degree { is_degree settings.degree ≡ false → result ≡ Err Degree }
     ensures asked { AskedFor (WasLetBy C.asks settings.token) result }
+    ensures growth { (fault : GrowthFault) → is_degree settings.degree ≡ true → CantGrow settings.growth fault → result ≡ Err (GrowthRefused fault) }
     ensures same { gathered.new.sink.ghost_name ≡ gathered.old.sink.ghost_name }
     ensures touched { Touched K.accepts K.refuses gathered.old.sink.now gathered.new.sink.now }
     ensures ran { (f : S.From → Option S.To) → ((x : S.From) → S.makes steps x (f x)) → (g : List S.To → List L.To) (d : List S.To → Bool)
@@ -187,6 +190,7 @@ where
     requires may_call_in_one_way { (a b : V.is_called) → a ≡ b }
     ensures degree { is_degree settings.degree ≡ false → result ≡ Err Degree }
     ensures asked { AskedFor (WasLetBy C.asks settings.token) result }
+    ensures growth { (fault : GrowthFault) → is_degree settings.degree ≡ true → CantGrow settings.growth fault → result ≡ Err (GrowthRefused fault) }
     ensures touched { Touched V.takes V.refuses by.old by.new }
     ensures ran { (f : S.From → Option S.To) → ((x : S.From) → S.makes steps x (f x)) → (g : List S.To → List L.To) (d : List S.To → Bool)
         → L.means later g d → Ran V.takes V.refuses (WasStoppedBy C.asks settings.token) settings.degree settings.growth
@@ -235,6 +239,7 @@ where
     requires may_call_in_one_way { (a b : V.is_called) → a ≡ b }
     ensures degree { is_degree settings.degree ≡ false → result ≡ Err Degree }
     ensures asked { AskedFor (WasLetBy C.asks settings.token) result }
+    ensures growth { (fault : GrowthFault) → is_degree settings.degree ≡ true → CantGrow settings.growth fault → result ≡ Err (GrowthRefused fault) }
     ensures same { passed.new.to.ghost_name ≡ passed.old.to.ghost_name }
     ensures touched { Touched V.takes V.refuses passed.old.to.now passed.new.to.now }
     ensures ran { (f : S.From → Option S.To) → ((x : S.From) → S.makes steps x (f x)) → (g : List S.To → List L.To) (d : List S.To → Bool)
@@ -276,6 +281,7 @@ where
     requires may_call_in_one_way { (a b : V.is_called) → a ≡ b }
     ensures degree { is_degree settings.degree ≡ false → result ≡ Err Degree }
     ensures asked { AskedFor (WasLetBy C.asks settings.token) result }
+    ensures growth { (fault : GrowthFault) → is_degree settings.degree ≡ true → CantGrow settings.growth fault → result ≡ Err (GrowthRefused fault) }
     ensures calls { (f : S.From → Option S.To) → ((x : S.From) → S.makes steps x (f x)) → (g : List S.To → List L.To) (d : List S.To → Bool)
         → L.means later g d → Ran V.takes V.refuses (WasStoppedBy C.asks settings.token) settings.degree settings.growth
         (items_of (batches settings.merge (left_trace f g d (Src.whole source)))) (left_trace f g d (Src.whole source)).ending by.old result by.new }
@@ -311,6 +317,7 @@ where
     requires then_gives_one { (l : L) → L.gives_one l }
     ensures degree { is_degree settings.degree ≡ false → result ≡ Err Degree }
     ensures asked { AskedFor (WasLetBy C.asks settings.token) result }
+    ensures growth { (fault : GrowthFault) → is_degree settings.degree ≡ true → CantGrow settings.growth fault → result ≡ Err (GrowthRefused fault) }
     ensures same { sink.new.by.ghost_name ≡ sink.old.by.ghost_name }
     ensures calls { (f : S.From → Option S.To) → ((x : S.From) → S.makes steps x (f x)) → (g : List S.To → List L.To) (d : List S.To → Bool)
         → L.means later g d → Ran V.takes V.refuses (WasStoppedBy C.asks settings.token) settings.degree settings.growth

@@ -1,12 +1,13 @@
 //! The run of steps whose items go through steps by position, and on.
-ghost use Rattle.std.specs.Prelude.{◌≡◌, List, Bool, Option, Err, IfErr, None, false};
+ghost use Rattle.std.specs.Prelude.{◌≡◌, List, Bool, Option, Err, IfErr, None, false, true};
 ghost use Rattle.plinq_ops.specs.Query.{is_degree};
-ghost use Rattle.plinq_passing.specs.declared.query_fault.QueryFault.TheVariants.{Degree};
+ghost use Rattle.plinq_passing.specs.declared.query_fault.QueryFault.TheVariants.{Degree, Growth as GrowthRefused};
 ghost use Rattle.plinq_passing.specs.Ran.{Ran, EndedOrRefused, left_trace};
 ghost use Rattle.plinq_passing.specs.Listed.{WasShort};
 ghost use Rattle.plinq_passing.specs.Passing.{Touched, told_over};
-ghost use Rattle.plinq_passing.specs.Told.{AskedFor};
+ghost use Rattle.plinq_passing.specs.Told.{AskedFor, CantGrow};
 ghost use Rattle.plinq_stopping.specs.Asking.{WasLetBy, WasStoppedBy};
+ghost use Rattle.plinq_enumerator.specs.declared.growth_fault.GrowthFault.{GrowthFault};
 
 use crate::by_threads::ByThreads;
 use crate::calling::{call_alone, call_by_threads};
@@ -49,6 +50,7 @@ where
     C: Cancel + Drop,
     ensures degree { is_degree settings.degree ≡ false → result ≡ Err Degree }
     ensures asked { AskedFor (WasLetBy C.asks settings.token) result }
+    ensures growth { (fault : GrowthFault) → is_degree settings.degree ≡ true → CantGrow settings.growth fault → result ≡ Err (GrowthRefused fault) }
     ensures short { IfErr result (WasShort (WasStoppedBy C.asks settings.token) settings.degree settings.growth) }
 {
     let mut token = settings.token;
@@ -88,6 +90,7 @@ where
     requires may_call_in_one_way { (a b : W.is_called) → a ≡ b }
     ensures degree { is_degree settings.degree ≡ false → result ≡ Err Degree }
     ensures asked { AskedFor (WasLetBy C.asks settings.token) result }
+    ensures growth { (fault : GrowthFault) → is_degree settings.degree ≡ true → CantGrow settings.growth fault → result ≡ Err (GrowthRefused fault) }
     ensures touched { Touched W.takes W.refuses passed.old.to passed.new.to }
     ensures passed { (f : S.From → Option S.To) → ((x : S.From) → S.makes steps x (f x)) → (g : List S.To → List L.To) (d : List S.To → Bool)
         → L.means passed.old.later g d → Ran W.takes W.refuses (WasStoppedBy C.asks settings.token) settings.degree settings.growth

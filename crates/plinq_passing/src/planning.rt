@@ -4,8 +4,9 @@ ghost use Rattle.plinq_ops.specs.Query.{is_degree};
 ghost use Rattle.plinq_run.specs.Aggregates.{Aggregates};
 ghost use Rattle.plinq_stopping.specs.Outcomes.{AggregatesWith};
 ghost use Rattle.plinq_collect.specs.Telling.{LacksRoom};
-ghost use Rattle.plinq_passing.specs.declared.query_fault.QueryFault.TheVariants.{Degree};
-ghost use Rattle.plinq_passing.specs.Told.{NoGrowth, told_of};
+ghost use Rattle.plinq_passing.specs.declared.query_fault.QueryFault.TheVariants.{Degree, Growth as GrowthRefused};
+ghost use Rattle.plinq_passing.specs.Told.{CantGrow, NoGrowth, told_of};
+ghost use Rattle.plinq_enumerator.specs.declared.growth_fault.GrowthFault.{GrowthFault};
 
 use crate::query_fault::QueryFault;
 use plinq_aggregate::GrowingAggregator;
@@ -38,7 +39,8 @@ pub(crate) fn plan_of<L: Drop>(alloc: Global, degree: u64) -> Result<Query<L>, Q
 
 /// The growth of these numbers, if any were given.
 pub(crate) fn growth_of(numbers: Option<(u64, u64, u64)>) -> Result<Option<Growth>, QueryFault>
-    ensures { IfErr result (NoGrowth numbers) }
+    ensures refused { IfErr result (NoGrowth numbers) }
+    ensures growth { (fault : GrowthFault) → CantGrow numbers fault → result ≡ Err (GrowthRefused fault) }
 {
     let Some((first, repeat, max)) = numbers else {
         return Ok(None);

@@ -4,9 +4,10 @@ ghost use Rattle.plinq_ops.specs.Batches.{batches};
 ghost use Rattle.plinq_ops.specs.Query.{is_degree, merge_in_force};
 ghost use Rattle.plinq_stopping.specs.Asking.{WasLetBy, WasStoppedBy};
 ghost use Rattle.plinq_stopping.specs.Outcomes.{RunsMadeOfWith};
-ghost use Rattle.plinq_passing.specs.declared.query_fault.QueryFault.TheVariants.{Degree};
+ghost use Rattle.plinq_passing.specs.declared.query_fault.QueryFault.TheVariants.{Degree, Growth as GrowthRefused};
 ghost use Rattle.plinq_passing.specs.Ran.{Ran, steps_made, told_ran, told_first, told_found, told_not};
-ghost use Rattle.plinq_passing.specs.Told.{AskedFor};
+ghost use Rattle.plinq_passing.specs.Told.{AskedFor, CantGrow};
+ghost use Rattle.plinq_enumerator.specs.declared.growth_fault.GrowthFault.{GrowthFault};
 
 use crate::by_threads::ByThreads;
 use crate::made::Made;
@@ -118,6 +119,7 @@ where
     requires gives_one { S.gives_one steps }
     ensures degree { is_degree settings.degree ≡ false → result ≡ Err Degree }
     ensures asked { AskedFor (WasLetBy C.asks settings.token) result }
+    ensures growth { (fault : GrowthFault) → is_degree settings.degree ≡ true → CantGrow settings.growth fault → result ≡ Err (GrowthRefused fault) }
     ensures ran { (f : S.From → Option S.To) → ((x : S.From) → S.makes steps x (f x))
         → Ran K.accepts K.refuses (WasStoppedBy C.asks settings.token) settings.degree
         settings.growth (batches settings.merge (steps_made f (Src.whole source))) (Src.whole source).ending sink.old result sink.new }

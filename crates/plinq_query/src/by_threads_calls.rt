@@ -1,14 +1,15 @@
 //! The calls that run a query by threads.
-ghost use Rattle.std.specs.Prelude.{◌≡◌, length, Option, false, Some, Err, MatchResult};
+ghost use Rattle.std.specs.Prelude.{◌≡◌, length, Option, false, Some, Err, MatchResult, true};
 ghost use Rattle.std.specs.List.{filter_map};
 ghost use Rattle.plinq_source.specs.declared.ending.Ending.TheVariants.{End};
 ghost use Rattle.plinq_aggregate.specs.Folding.{aggregate_value, fold_of};
 ghost use Rattle.plinq_groups.specs.Groups.{grouping};
 ghost use Rattle.plinq_groups.specs.Others.{of_field};
 ghost use Rattle.plinq_ops.specs.Query.{is_degree};
-ghost use Rattle.plinq_passing.specs.declared.query_fault.QueryFault.TheVariants.{Degree};
-ghost use Rattle.plinq_passing.specs.Told.{AskedFor, HasNone};
+ghost use Rattle.plinq_passing.specs.declared.query_fault.QueryFault.TheVariants.{Degree, Growth as GrowthRefused};
+ghost use Rattle.plinq_passing.specs.Told.{AskedFor, CantGrow, HasNone};
 ghost use Rattle.plinq_stopping.specs.Asking.{WasLetBy, WasStoppedBy};
+ghost use Rattle.plinq_enumerator.specs.declared.growth_fault.GrowthFault.{GrowthFault};
 
 use crate::count_of::{CountOf, has_few};
 use crate::pairs::{FirstOf, SecondOf};
@@ -51,6 +52,7 @@ where
         requires gives_one { S.gives_one self.steps }
         ensures degree { is_degree self.by.degree ≡ false → result ≡ Err Degree }
         ensures asked { AskedFor (WasLetBy C.asks self.by.token) result }
+        ensures growth { (fault : GrowthFault) → is_degree self.by.degree ≡ true → CantGrow self.by.growth fault → result ≡ Err (GrowthRefused fault) }
         ensures value { (f : S.From → Option S.To) → ((x : S.From) → S.makes self.steps x (f x)) → MatchResult result
             (λ out. (out ≡ aggregate_value (A.folding aggregator) (filter_map f (Src.whole self.source).items))
             × ((Src.whole self.source).ending ≡ Some End))
@@ -75,6 +77,7 @@ where
         requires gives_one { S.gives_one self.steps }
         ensures degree { is_degree self.by.degree ≡ false → result ≡ Err Degree }
         ensures asked { AskedFor (WasLetBy C.asks self.by.token) result }
+        ensures growth { (fault : GrowthFault) → is_degree self.by.degree ≡ true → CantGrow self.by.growth fault → result ≡ Err (GrowthRefused fault) }
         ensures value { (f : S.From → Option S.To) → ((x : S.From) → S.makes self.steps x (f x)) → MatchResult result
             (λ list. (list.items ≡ filter_map f (Src.whole self.source).items) × ((Src.whole self.source).ending ≡ Some End))
             (HasNone (WasStoppedBy C.asks self.by.token) self.by.degree self.by.growth (Src.whole self.source)) }
@@ -100,6 +103,7 @@ where
         requires gives_one { S.gives_one self.steps }
         ensures degree { is_degree self.by.degree ≡ false → result ≡ Err Degree }
         ensures asked { AskedFor (WasLetBy C.asks self.by.token) result }
+        ensures growth { (fault : GrowthFault) → is_degree self.by.degree ≡ true → CantGrow self.by.growth fault → result ≡ Err (GrowthRefused fault) }
         ensures value { (f : S.From → Option S.To) → ((x : S.From) → S.makes self.steps x (f x)) → MatchResult result
             (λ n. (n ≡ length (filter_map f (Src.whole self.source).items)) × ((Src.whole self.source).ending ≡ Some End))
             (HasNone (WasStoppedBy C.asks self.by.token) self.by.degree self.by.growth (Src.whole self.source)) }
@@ -140,6 +144,7 @@ where
         requires gives_one { S.gives_one self.steps }
         ensures degree { is_degree self.by.degree ≡ false → result ≡ Err Degree }
         ensures asked { AskedFor (WasLetBy C.asks self.by.token) result }
+        ensures growth { (fault : GrowthFault) → is_degree self.by.degree ≡ true → CantGrow self.by.growth fault → result ≡ Err (GrowthRefused fault) }
         ensures value { (f : S.From → Option (K × V)) → ((x : S.From) → S.makes self.steps x (f x)) → MatchResult result
             (λ groups. (groups ≡ fold_of (grouping K.eq (λ p. p.0) (of_field (λ p. p.1) (A.folding each)))
             (filter_map f (Src.whole self.source).items)) × ((Src.whole self.source).ending ≡ Some End))

@@ -5,10 +5,11 @@ ghost use Rattle.plinq_source.specs.declared.ending.Ending.TheVariants.{End};
 ghost use Rattle.plinq_collect.specs.ItemFoldings.{first_of};
 ghost use Rattle.plinq_ops.specs.Batches.{batches};
 ghost use Rattle.plinq_ops.specs.Query.{is_degree};
-ghost use Rattle.plinq_passing.specs.declared.query_fault.QueryFault.TheVariants.{Degree};
+ghost use Rattle.plinq_passing.specs.declared.query_fault.QueryFault.TheVariants.{Degree, Growth as GrowthRefused};
 ghost use Rattle.plinq_passing.specs.Ran.{Ran, SearchFails, steps_made};
 ghost use Rattle.plinq_stopping.specs.Asking.{WasLetBy, WasStoppedBy};
-ghost use Rattle.plinq_passing.specs.Told.{AskedFor};
+ghost use Rattle.plinq_passing.specs.Told.{AskedFor, CantGrow};
+ghost use Rattle.plinq_enumerator.specs.declared.growth_fault.GrowthFault.{GrowthFault};
 
 use crate::query::Query;
 use plinq_merge::{Cancel, Sink};
@@ -47,6 +48,7 @@ where
         requires gives_one { S.gives_one self.steps }
         ensures degree { is_degree self.by.degree ≡ false → result ≡ Err Degree }
         ensures asked { AskedFor (WasLetBy C.asks self.by.token) result }
+        ensures growth { (fault : GrowthFault) → is_degree self.by.degree ≡ true → CantGrow self.by.growth fault → result ≡ Err (GrowthRefused fault) }
         ensures ran { (f : S.From → Option S.To) → ((x : S.From) → S.makes self.steps x (f x)) → Ran K.accepts K.refuses
             (WasStoppedBy C.asks self.by.token) self.by.degree
             self.by.growth (batches self.by.merge (steps_made f (Src.whole self.source))) (Src.whole self.source).ending sink.old result sink.new }
@@ -71,6 +73,7 @@ where
         requires gives_one { S.gives_one self.steps }
         ensures degree { is_degree self.by.degree ≡ false → result ≡ Err Degree }
         ensures asked { AskedFor (WasLetBy C.asks self.by.token) result }
+        ensures growth { (fault : GrowthFault) → is_degree self.by.degree ≡ true → CantGrow self.by.growth fault → result ≡ Err (GrowthRefused fault) }
         ensures value { (f : S.From → Option S.To) → ((x : S.From) → S.makes self.steps x (f x)) → MatchResult result
             (λ o. (o ≡ first_of (filter_map f (Src.whole self.source).items)) × (o ≡ None → (Src.whole self.source).ending ≡ Some End))
             (SearchFails (first_of (filter_map f (Src.whole self.source).items) ≡ None)
@@ -104,6 +107,7 @@ where
         requires gives_one { S.gives_one self.steps }
         ensures degree { is_degree self.by.degree ≡ false → result ≡ Err Degree }
         ensures asked { AskedFor (WasLetBy C.asks self.by.token) result }
+        ensures growth { (fault : GrowthFault) → is_degree self.by.degree ≡ true → CantGrow self.by.growth fault → result ≡ Err (GrowthRefused fault) }
         ensures value { (f : S.From → Option S.To) → ((x : S.From) → S.makes self.steps x (f x)) → MatchResult result
             (λ o. (o ≡ first_of (drop position (filter_map f (Src.whole self.source).items))) × (o ≡ None → (Src.whole self.source).ending ≡ Some End))
             (SearchFails (first_of (drop position (filter_map f (Src.whole self.source).items)) ≡ None)
@@ -128,6 +132,7 @@ where
         requires gives_one { S.gives_one self.steps }
         ensures degree { is_degree self.by.degree ≡ false → result ≡ Err Degree }
         ensures asked { AskedFor (WasLetBy C.asks self.by.token) result }
+        ensures growth { (fault : GrowthFault) → is_degree self.by.degree ≡ true → CantGrow self.by.growth fault → result ≡ Err (GrowthRefused fault) }
         ensures value { (f : S.From → Option S.To) → ((x : S.From) → S.makes self.steps x (f x)) → MatchResult result
             (λ is. (is ≡ list_any (λ y. S.To.eq y item) (filter_map f (Src.whole self.source).items))
             × (is ≡ false → (Src.whole self.source).ending ≡ Some End))
@@ -162,6 +167,7 @@ where
         requires gives_one { ((y : S.To) (r q : Bool) → F.post by y r → F.post by y q → q ≡ r) × S.gives_one self.steps }
         ensures degree { is_degree self.by.degree ≡ false → result ≡ Err Degree }
         ensures asked { AskedFor (WasLetBy C.asks self.by.token) result }
+        ensures growth { (fault : GrowthFault) → is_degree self.by.degree ≡ true → CantGrow self.by.growth fault → result ≡ Err (GrowthRefused fault) }
         ensures value { (f : S.From → Option S.To) → ((x : S.From) → S.makes self.steps x (f x)) → (p : S.To → Bool) → ((y : S.To) → F.post by y (p y))
             → MatchResult result
             (λ is. (is ≡ list_any p (filter_map f (Src.whole self.source).items)) × (is ≡ false → (Src.whole self.source).ending ≡ Some End))
@@ -188,6 +194,7 @@ where
         requires gives_one { ((y : S.To) (r q : Bool) → F.post by y r → F.post by y q → q ≡ r) × S.gives_one self.steps }
         ensures degree { is_degree self.by.degree ≡ false → result ≡ Err Degree }
         ensures asked { AskedFor (WasLetBy C.asks self.by.token) result }
+        ensures growth { (fault : GrowthFault) → is_degree self.by.degree ≡ true → CantGrow self.by.growth fault → result ≡ Err (GrowthRefused fault) }
         ensures value { (f : S.From → Option S.To) → ((x : S.From) → S.makes self.steps x (f x)) → (p : S.To → Bool) → ((y : S.To) → F.post by y (p y))
             → MatchResult result
             (λ is. (is ≡ list_all p (filter_map f (Src.whole self.source).items)) × (is ≡ true → (Src.whole self.source).ending ≡ Some End))

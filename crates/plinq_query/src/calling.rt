@@ -1,13 +1,14 @@
 //! The calls of a closure with what a query makes.
-ghost use Rattle.std.specs.Prelude.{◌≡◌, ℕ, Option, Ok, Err, IfErr, None, false};
+ghost use Rattle.std.specs.Prelude.{◌≡◌, ℕ, Option, Ok, Err, IfErr, None, false, true};
 ghost use Rattle.std.specs.List.{filter_map};
 ghost use Rattle.plinq_collect.specs.Telling.{items_of};
 ghost use Rattle.plinq_ops.specs.Batches.{batches};
 ghost use Rattle.plinq_ops.specs.Query.{is_degree};
-ghost use Rattle.plinq_passing.specs.declared.query_fault.QueryFault.TheVariants.{Degree};
+ghost use Rattle.plinq_passing.specs.declared.query_fault.QueryFault.TheVariants.{Degree, Growth as GrowthRefused};
 ghost use Rattle.plinq_passing.specs.Ran.{Ran, EndedOrRefused, steps_made};
 ghost use Rattle.plinq_stopping.specs.Asking.{WasLetBy, WasStoppedBy};
-ghost use Rattle.plinq_passing.specs.Told.{AskedFor};
+ghost use Rattle.plinq_passing.specs.Told.{AskedFor, CantGrow};
+ghost use Rattle.plinq_enumerator.specs.declared.growth_fault.GrowthFault.{GrowthFault};
 
 use crate::query::{OneThread, Query};
 use plinq_merge::Cancel;
@@ -46,6 +47,7 @@ where
         requires may_call_in_one_way { (g : F) (y : S.To) (a b : F.pre g y) → a ≡ b }
         ensures degree { is_degree self.by.degree ≡ false → result ≡ Err Degree }
         ensures asked { AskedFor (WasLetBy C.asks self.by.token) result }
+        ensures growth { (fault : GrowthFault) → is_degree self.by.degree ≡ true → CantGrow self.by.growth fault → result ≡ Err (GrowthRefused fault) }
         ensures calls { (f : S.From → Option S.To) → ((x : S.From) → S.makes self.steps x (f x)) → Ran (λ g y h. F.step g y tt h) (λ _ _ _ _. ⊥)
             (WasStoppedBy C.asks self.by.token) self.by.degree self.by.growth (items_of (batches self.by.merge (steps_made f (Src.whole self.source))))
             (Src.whole self.source).ending by.old result by.new }
@@ -76,6 +78,7 @@ where
         requires may_call_in_one_way { (g : F) (y : S.To) (a b : F.pre g y) → a ≡ b }
         ensures degree { is_degree self.by.degree ≡ false → result ≡ Err Degree }
         ensures asked { AskedFor (WasLetBy C.asks self.by.token) result }
+        ensures growth { (fault : GrowthFault) → is_degree self.by.degree ≡ true → CantGrow self.by.growth fault → result ≡ Err (GrowthRefused fault) }
         ensures calls { (f : S.From → Option S.To) → ((x : S.From) → S.makes self.steps x (f x)) → Ran (λ g y h. F.step g y (Ok tt) h)
             (λ g y code h. F.step g y (Err code) h)
             (WasStoppedBy C.asks self.by.token) self.by.degree self.by.growth (items_of (batches self.by.merge (steps_made f (Src.whole self.source))))

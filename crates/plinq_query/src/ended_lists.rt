@@ -1,14 +1,15 @@
 //! The calls that return a list of all that came, and how it ended.
-ghost use Rattle.std.specs.Prelude.{◌≡◌, List, Bool, Option, Some, Err, false, MatchResult};
+ghost use Rattle.std.specs.Prelude.{◌≡◌, List, Bool, Option, Some, Err, false, MatchResult, true};
 ghost use Rattle.std.specs.List.{filter_map};
 ghost use Rattle.plinq_collect.specs.Telling.{items_of};
 ghost use Rattle.plinq_ops.specs.Batches.{batches};
 ghost use Rattle.plinq_ops.specs.Query.{is_degree};
-ghost use Rattle.plinq_passing.specs.declared.query_fault.QueryFault.TheVariants.{Degree};
+ghost use Rattle.plinq_passing.specs.declared.query_fault.QueryFault.TheVariants.{Degree, Growth as GrowthRefused};
 ghost use Rattle.plinq_passing.specs.Listed.{WasShort, WasShortAlone};
 ghost use Rattle.plinq_passing.specs.Ran.{left_trace, steps_made};
 ghost use Rattle.plinq_stopping.specs.Asking.{WasLetBy, WasStoppedBy};
-ghost use Rattle.plinq_passing.specs.Told.{AskedFor};
+ghost use Rattle.plinq_passing.specs.Told.{AskedFor, CantGrow};
+ghost use Rattle.plinq_enumerator.specs.declared.growth_fault.GrowthFault.{GrowthFault};
 
 use crate::merged::Merged;
 use crate::query::{OneThread, Query};
@@ -55,6 +56,7 @@ where
         requires gives_one { S.gives_one self.steps }
         ensures degree { is_degree self.by.degree ≡ false → result ≡ Err Degree }
         ensures asked { AskedFor (WasLetBy C.asks self.by.token) result }
+        ensures growth { (fault : GrowthFault) → is_degree self.by.degree ≡ true → CantGrow self.by.growth fault → result ≡ Err (GrowthRefused fault) }
         ensures value { (f : S.From → Option S.To) → ((x : S.From) → S.makes self.steps x (f x)) → MatchResult result
             (λ it. (it.0.items ≡ items_of (batches self.by.merge (steps_made f (Src.whole self.source)))) × ((Src.whole self.source).ending ≡ Some it.1))
             (WasShort (WasStoppedBy C.asks self.by.token) self.by.degree self.by.growth) }
@@ -131,6 +133,8 @@ where
         requires then_gives_one { (l : L) → L.gives_one l }
         ensures degree { is_degree self.query.by.degree ≡ false → result ≡ Err Degree }
         ensures asked { AskedFor (WasLetBy C.asks self.query.by.token) result }
+        ensures growth { (fault : GrowthFault) → is_degree self.query.by.degree ≡ true → CantGrow self.query.by.growth fault
+            → result ≡ Err (GrowthRefused fault) }
         ensures value { (f : S.From → Option S.To) → ((x : S.From) → S.makes self.query.steps x (f x)) → (g : List S.To → List L.To)
             (d : List S.To → Bool) → L.means self.then g d → MatchResult result
             (λ it. (it.0.items ≡ items_of (batches self.query.by.merge (left_trace f g d (Src.whole self.query.source))))

@@ -1,14 +1,15 @@
 //! The calls that run a query with steps by position, by threads.
-ghost use Rattle.std.specs.Prelude.{◌≡◌, length, List, Bool, Option, Some, None, false, Err, MatchResult};
+ghost use Rattle.std.specs.Prelude.{◌≡◌, length, List, Bool, Option, Some, None, false, Err, MatchResult, true};
 ghost use Rattle.plinq_aggregate.specs.Folding.{aggregate_value, fold_of};
 ghost use Rattle.plinq_groups.specs.Groups.{grouping};
 ghost use Rattle.plinq_groups.specs.Others.{of_field};
 ghost use Rattle.plinq_collect.specs.ItemFoldings.{first_of};
 ghost use Rattle.plinq_ops.specs.Query.{is_degree};
-ghost use Rattle.plinq_passing.specs.declared.query_fault.QueryFault.TheVariants.{Degree};
+ghost use Rattle.plinq_passing.specs.declared.query_fault.QueryFault.TheVariants.{Degree, Growth as GrowthRefused};
 ghost use Rattle.plinq_passing.specs.Ran.{SearchFails, EndsUnless, decided_by, left_of};
 ghost use Rattle.plinq_stopping.specs.Asking.{WasLetBy, WasStoppedBy};
-ghost use Rattle.plinq_passing.specs.Told.{AskedFor};
+ghost use Rattle.plinq_passing.specs.Told.{AskedFor, CantGrow};
+ghost use Rattle.plinq_enumerator.specs.declared.growth_fault.GrowthFault.{GrowthFault};
 
 use crate::count_of::{CountOf, has_few};
 use crate::merged::Merged;
@@ -56,6 +57,8 @@ where
         requires then_gives_one { (l : L) → L.gives_one l }
         ensures degree { is_degree self.query.by.degree ≡ false → result ≡ Err Degree }
         ensures asked { AskedFor (WasLetBy C.asks self.query.by.token) result }
+        ensures growth { (fault : GrowthFault) → is_degree self.query.by.degree ≡ true → CantGrow self.query.by.growth fault
+            → result ≡ Err (GrowthRefused fault) }
         ensures value { (f : S.From → Option S.To) → ((x : S.From) → S.makes self.query.steps x (f x)) → (g : List S.To → List L.To)
             (d : List S.To → Bool) → L.means self.then g d → MatchResult result
             (λ out. (out ≡ aggregate_value (A.folding aggregator) (left_of f g (Src.whole self.query.source)))
@@ -105,6 +108,8 @@ where
         requires then_gives_one { (l : L) → L.gives_one l }
         ensures degree { is_degree self.query.by.degree ≡ false → result ≡ Err Degree }
         ensures asked { AskedFor (WasLetBy C.asks self.query.by.token) result }
+        ensures growth { (fault : GrowthFault) → is_degree self.query.by.degree ≡ true → CantGrow self.query.by.growth fault
+            → result ≡ Err (GrowthRefused fault) }
         ensures value { (f : S.From → Option S.To) → ((x : S.From) → S.makes self.query.steps x (f x)) → (g : List S.To → List L.To)
             (d : List S.To → Bool) → L.means self.then g d → MatchResult result
             (λ list. (list.items ≡ left_of f g (Src.whole self.query.source))
@@ -137,6 +142,8 @@ where
         requires then_gives_one { (l : L) → L.gives_one l }
         ensures degree { is_degree self.query.by.degree ≡ false → result ≡ Err Degree }
         ensures asked { AskedFor (WasLetBy C.asks self.query.by.token) result }
+        ensures growth { (fault : GrowthFault) → is_degree self.query.by.degree ≡ true → CantGrow self.query.by.growth fault
+            → result ≡ Err (GrowthRefused fault) }
         ensures value { (f : S.From → Option S.To) → ((x : S.From) → S.makes self.query.steps x (f x)) → (g : List S.To → List L.To)
             (d : List S.To → Bool) → L.means self.then g d → MatchResult result
             (λ n. (n ≡ length (left_of f g (Src.whole self.query.source)))
@@ -166,6 +173,8 @@ where
         requires then_gives_one { (l : L) → L.gives_one l }
         ensures degree { is_degree self.query.by.degree ≡ false → result ≡ Err Degree }
         ensures asked { AskedFor (WasLetBy C.asks self.query.by.token) result }
+        ensures growth { (fault : GrowthFault) → is_degree self.query.by.degree ≡ true → CantGrow self.query.by.growth fault
+            → result ≡ Err (GrowthRefused fault) }
         ensures value { (f : S.From → Option S.To) → ((x : S.From) → S.makes self.query.steps x (f x)) → (g : List S.To → List L.To)
             (d : List S.To → Bool) → L.means self.then g d → MatchResult result
             (λ o. (o ≡ first_of (left_of f g (Src.whole self.query.source))) × (o ≡ None
@@ -226,6 +235,8 @@ where
         requires then_gives_one { (l : L) → L.gives_one l }
         ensures degree { is_degree self.query.by.degree ≡ false → result ≡ Err Degree }
         ensures asked { AskedFor (WasLetBy C.asks self.query.by.token) result }
+        ensures growth { (fault : GrowthFault) → is_degree self.query.by.degree ≡ true → CantGrow self.query.by.growth fault
+            → result ≡ Err (GrowthRefused fault) }
         ensures value { (f : S.From → Option S.To) → ((x : S.From) → S.makes self.query.steps x (f x)) → (g : List S.To → List (K × V))
             (d : List S.To → Bool) → L.means self.then g d → MatchResult result
             (λ groups. (groups ≡ fold_of (grouping K.eq (λ p. p.0) (of_field (λ p. p.1) (A.folding each))) (left_of f g (Src.whole self.query.source)))

@@ -1,12 +1,13 @@
 //! The calls that pass on what steps by position leave, to a closure or a sink.
-ghost use Rattle.std.specs.Prelude.{◌≡◌, ℕ, List, Bool, Option, Ok, Err, IfErr, None, false};
+ghost use Rattle.std.specs.Prelude.{◌≡◌, ℕ, List, Bool, Option, Ok, Err, IfErr, None, false, true};
 ghost use Rattle.plinq_collect.specs.Telling.{items_of};
 ghost use Rattle.plinq_ops.specs.Batches.{batches};
 ghost use Rattle.plinq_ops.specs.Query.{is_degree};
-ghost use Rattle.plinq_passing.specs.declared.query_fault.QueryFault.TheVariants.{Degree};
+ghost use Rattle.plinq_passing.specs.declared.query_fault.QueryFault.TheVariants.{Degree, Growth as GrowthRefused};
 ghost use Rattle.plinq_passing.specs.Ran.{Ran, EndedOrRefused, left_trace};
 ghost use Rattle.plinq_stopping.specs.Asking.{WasLetBy, WasStoppedBy};
-ghost use Rattle.plinq_passing.specs.Told.{AskedFor};
+ghost use Rattle.plinq_passing.specs.Told.{AskedFor, CantGrow};
+ghost use Rattle.plinq_enumerator.specs.declared.growth_fault.GrowthFault.{GrowthFault};
 
 use crate::merged::Merged;
 use crate::query::OneThread;
@@ -48,6 +49,8 @@ where
         requires then_gives_one { (l : L) → L.gives_one l }
         ensures degree { is_degree self.query.by.degree ≡ false → result ≡ Err Degree }
         ensures asked { AskedFor (WasLetBy C.asks self.query.by.token) result }
+        ensures growth { (fault : GrowthFault) → is_degree self.query.by.degree ≡ true → CantGrow self.query.by.growth fault
+            → result ≡ Err (GrowthRefused fault) }
         ensures ran { (f : S.From → Option S.To) → ((x : S.From) → S.makes self.query.steps x (f x)) → (g : List S.To → List L.To)
             (d : List S.To → Bool) → L.means self.then g d → Ran K.accepts K.refuses
             (WasStoppedBy C.asks self.query.by.token) self.query.by.degree self.query.by.growth
@@ -82,6 +85,8 @@ where
         requires may_call_in_one_way { (g : F) (y : L.To) (a b : F.pre g y) → a ≡ b }
         ensures degree { is_degree self.query.by.degree ≡ false → result ≡ Err Degree }
         ensures asked { AskedFor (WasLetBy C.asks self.query.by.token) result }
+        ensures growth { (fault : GrowthFault) → is_degree self.query.by.degree ≡ true → CantGrow self.query.by.growth fault
+            → result ≡ Err (GrowthRefused fault) }
         ensures calls { (f : S.From → Option S.To) → ((x : S.From) → S.makes self.query.steps x (f x)) → (g : List S.To → List L.To)
             (d : List S.To → Bool) → L.means self.then g d → Ran (λ h y k. F.step h y tt k) (λ _ _ _ _. ⊥)
             (WasStoppedBy C.asks self.query.by.token) self.query.by.degree
@@ -121,6 +126,8 @@ where
         requires may_call_in_one_way { (g : F) (y : L.To) (a b : F.pre g y) → a ≡ b }
         ensures degree { is_degree self.query.by.degree ≡ false → result ≡ Err Degree }
         ensures asked { AskedFor (WasLetBy C.asks self.query.by.token) result }
+        ensures growth { (fault : GrowthFault) → is_degree self.query.by.degree ≡ true → CantGrow self.query.by.growth fault
+            → result ≡ Err (GrowthRefused fault) }
         ensures calls { (f : S.From → Option S.To) → ((x : S.From) → S.makes self.query.steps x (f x)) → (g : List S.To → List L.To)
             (d : List S.To → Bool) → L.means self.then g d → Ran (λ h y k. F.step h y (Ok tt) k) (λ h y code k. F.step h y (Err code) k)
             (WasStoppedBy C.asks self.query.by.token) self.query.by.degree self.query.by.growth (items_of (batches self.query.by.merge (left_trace f g d

@@ -3,10 +3,11 @@ ghost use Rattle.std.specs.Prelude.{◌≡◌, drop, List, Bool, Option, None, t
 ghost use Rattle.std.specs.List.{list_any, list_all};
 ghost use Rattle.plinq_collect.specs.ItemFoldings.{first_of};
 ghost use Rattle.plinq_ops.specs.Query.{is_degree};
-ghost use Rattle.plinq_passing.specs.declared.query_fault.QueryFault.TheVariants.{Degree};
+ghost use Rattle.plinq_passing.specs.declared.query_fault.QueryFault.TheVariants.{Degree, Growth as GrowthRefused};
 ghost use Rattle.plinq_passing.specs.Ran.{SearchFails, EndsUnless, decided_by, left_of};
 ghost use Rattle.plinq_stopping.specs.Asking.{WasLetBy, WasStoppedBy};
-ghost use Rattle.plinq_passing.specs.Told.{AskedFor};
+ghost use Rattle.plinq_passing.specs.Told.{AskedFor, CantGrow};
+ghost use Rattle.plinq_enumerator.specs.declared.growth_fault.GrowthFault.{GrowthFault};
 
 use crate::merged::Merged;
 use plinq_merge::Cancel;
@@ -49,6 +50,8 @@ where
         requires then_gives_one { (l : L) → L.gives_one l }
         ensures degree { is_degree self.query.by.degree ≡ false → result ≡ Err Degree }
         ensures asked { AskedFor (WasLetBy C.asks self.query.by.token) result }
+        ensures growth { (fault : GrowthFault) → is_degree self.query.by.degree ≡ true → CantGrow self.query.by.growth fault
+            → result ≡ Err (GrowthRefused fault) }
         ensures value { (f : S.From → Option S.To) → ((x : S.From) → S.makes self.query.steps x (f x)) → (g : List S.To → List L.To)
             (d : List S.To → Bool) → L.means self.then g d → MatchResult result
             (λ o. (o ≡ first_of (drop position (left_of f g (Src.whole self.query.source))))
@@ -79,6 +82,8 @@ where
         requires then_gives_one { (l : L) → L.gives_one l }
         ensures degree { is_degree self.query.by.degree ≡ false → result ≡ Err Degree }
         ensures asked { AskedFor (WasLetBy C.asks self.query.by.token) result }
+        ensures growth { (fault : GrowthFault) → is_degree self.query.by.degree ≡ true → CantGrow self.query.by.growth fault
+            → result ≡ Err (GrowthRefused fault) }
         ensures value { (f : S.From → Option S.To) → ((x : S.From) → S.makes self.query.steps x (f x)) → (g : List S.To → List L.To)
             (d : List S.To → Bool) → L.means self.then g d → MatchResult result
             (λ is. (is ≡ list_any (λ y. L.To.eq y item) (left_of f g (Src.whole self.query.source)))
@@ -123,6 +128,8 @@ where
         requires returns_one { (g : F) (y : L.To) (r q : Bool) → F.post g y r → F.post g y q → q ≡ r }
         ensures degree { is_degree self.query.by.degree ≡ false → result ≡ Err Degree }
         ensures asked { AskedFor (WasLetBy C.asks self.query.by.token) result }
+        ensures growth { (fault : GrowthFault) → is_degree self.query.by.degree ≡ true → CantGrow self.query.by.growth fault
+            → result ≡ Err (GrowthRefused fault) }
         ensures value { (f : S.From → Option S.To) → ((x : S.From) → S.makes self.query.steps x (f x)) → (g : List S.To → List L.To)
             (d : List S.To → Bool) → L.means self.then g d → (p : L.To → Bool) → ((y : L.To) → F.post by y (p y)) → MatchResult result
             (λ is. (is ≡ list_any p (left_of f g (Src.whole self.query.source)))
@@ -157,6 +164,8 @@ where
         requires returns_one { (g : F) (y : L.To) (r q : Bool) → F.post g y r → F.post g y q → q ≡ r }
         ensures degree { is_degree self.query.by.degree ≡ false → result ≡ Err Degree }
         ensures asked { AskedFor (WasLetBy C.asks self.query.by.token) result }
+        ensures growth { (fault : GrowthFault) → is_degree self.query.by.degree ≡ true → CantGrow self.query.by.growth fault
+            → result ≡ Err (GrowthRefused fault) }
         ensures value { (f : S.From → Option S.To) → ((x : S.From) → S.makes self.query.steps x (f x)) → (g : List S.To → List L.To)
             (d : List S.To → Bool) → L.means self.then g d → (p : L.To → Bool) → ((y : L.To) → F.post by y (p y)) → MatchResult result
             (λ is. (is ≡ list_all p (left_of f g (Src.whole self.query.source)))

@@ -1,13 +1,14 @@
 //! The calls that return what is greatest of what is made.
-ghost use Rattle.std.specs.Prelude.{◌≡◌, take, List, Bool, Option, Some, false, Err, MatchResult};
+ghost use Rattle.std.specs.Prelude.{◌≡◌, take, List, Bool, Option, Some, false, Err, MatchResult, true};
 ghost use Rattle.std.specs.List.{filter_map};
 ghost use Rattle.plinq_source.specs.declared.ending.Ending.TheVariants.{End};
 ghost use Rattle.plinq_groups.specs.Topped.{ranked_items};
 ghost use Rattle.plinq_ops.specs.Query.{is_degree};
-ghost use Rattle.plinq_passing.specs.declared.query_fault.QueryFault.TheVariants.{Degree};
+ghost use Rattle.plinq_passing.specs.declared.query_fault.QueryFault.TheVariants.{Degree, Growth as GrowthRefused};
 ghost use Rattle.plinq_passing.specs.Ran.{SearchFails, FailsAlone, EndsUnless, decided_by, left_of};
-ghost use Rattle.plinq_passing.specs.Told.{AskedFor, HasNone, HasNoneAlone};
+ghost use Rattle.plinq_passing.specs.Told.{AskedFor, CantGrow, HasNone, HasNoneAlone};
 ghost use Rattle.plinq_stopping.specs.Asking.{WasLetBy, WasStoppedBy};
+ghost use Rattle.plinq_enumerator.specs.declared.growth_fault.GrowthFault.{GrowthFault};
 
 use crate::merged::Merged;
 use crate::pairs::FirstOf;
@@ -47,6 +48,7 @@ where
         requires gives_one { S.gives_one self.steps }
         ensures degree { is_degree self.by.degree ≡ false → result ≡ Err Degree }
         ensures asked { AskedFor (WasLetBy C.asks self.by.token) result }
+        ensures growth { (fault : GrowthFault) → is_degree self.by.degree ≡ true → CantGrow self.by.growth fault → result ≡ Err (GrowthRefused fault) }
         ensures value { (f : S.From → Option (K × V)) → ((x : S.From) → S.makes self.steps x (f x)) → MatchResult result
             (λ list. (list.items ≡ take count (ranked_items (λ p. p.0) K.cmp (filter_map f (Src.whole self.source).items)))
             × ((Src.whole self.source).ending ≡ Some End))
@@ -127,6 +129,8 @@ where
         requires then_gives_one { (l : L) → L.gives_one l }
         ensures degree { is_degree self.query.by.degree ≡ false → result ≡ Err Degree }
         ensures asked { AskedFor (WasLetBy C.asks self.query.by.token) result }
+        ensures growth { (fault : GrowthFault) → is_degree self.query.by.degree ≡ true → CantGrow self.query.by.growth fault
+            → result ≡ Err (GrowthRefused fault) }
         ensures value { (f : S.From → Option S.To) → ((x : S.From) → S.makes self.query.steps x (f x)) → (g : List S.To → List (K × V))
             (d : List S.To → Bool) → L.means self.then g d → MatchResult result
             (λ list. (list.items ≡ take count (ranked_items (λ p. p.0) K.cmp (left_of f g (Src.whole self.query.source))))
