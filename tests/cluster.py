@@ -340,9 +340,10 @@ def refused(tests):
         seen = command(["--local", "1", "--text", os.fsdecode(name)], text_of({"list": []}))
         wanted = Outcome(5, b"", b"plinq-cluster: " + shown + b": No such file or directory\n")
         tests.check(f"refused: a text that isn't there, {shown}", seen == wanted, seen)
-    for empty in ("", " "):
-        seen = command(["--scheduler", empty], text_of({"list": [1]}))
-        tests.check(f"refused: the scheduler {empty!r}", seen.status == 2 and b"invalid HOST:PORT value" in seen.errors, seen)
+    for option, kind in (("scheduler", "HOST:PORT"), ("text", "FILE"), ("program", "PATH")):
+        for empty in ("", " "):
+            seen = command([f"--{option}", empty], text_of({"list": [1]}))
+            tests.check(f"refused: the {option} {empty!r}", seen.status == 2 and f"invalid {kind} value".encode() in seen.errors, seen)
     seen = command([*words, "--program", "/tmp"], text_of({"list": [1]}))
     is_said = seen.status == 5 and seen.errors.startswith(b"plinq-cluster: /tmp is no file that may be run: ")
     tests.check("refused: a folder as the program", is_said, seen)
@@ -613,6 +614,8 @@ def large_text(tests, machines, folder):
         file.write(b"1 -" + b"0" * 20_000_000 + b"7\n3\r\n5")
     seen = command([*words, f"{folder}/long"], b'{"version":1,"query":[["as_ordered"]]}')
     tests.check("a number of 20,000,000 digits", seen == Outcome(3, b"1 -7\nrefused 1\n", b""), seen)
+    seen = command([*words, "/dev/zero"], b'{"version":1,"query":[["as_ordered"]]}')
+    tests.check("a text that isn't one, and has no end", seen == Outcome(3, b"refused 1\n", b""), seen)
 
 
 def other_programs(tests, folder):

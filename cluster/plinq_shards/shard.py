@@ -97,6 +97,9 @@ def pieces(file, size, name):
         if end:
             yield block[:end]
         rest = block[end:] if end else shortened(block)
+        # (whatever follows, the text refuses there: it may have no end)
+        if b"x" in rest:
+            break
     if rest:
         yield rest
 
