@@ -1,6 +1,6 @@
 #!/usr/bin/env python3
 """Looks whether what the pages name is there: each link's target, and each file that is named by its path in a crate; and
-whether no sentence of README.md and docs/ has more than 30 words (TRUSTED.md and api/, which tools make, are left out), and no page or
+whether no sentence of README.md and docs/ has more than 30 words (TRUSTED.md, trusted/ and api/, which tools make, are left out, but not their templates), and no page or
 help, and no item's documentation, has a twisted form that the field says otherwise. No line of a crate's sources has more than 160 columns.
 
     python3 tests/pages.py
@@ -39,7 +39,7 @@ def sentences(text):
 
 def is_made(page):
     """Whether a tool makes a page, of what stands in the sources."""
-    return page == "docs/TRUSTED.md" or page.startswith("docs/api/")
+    return page == "docs/TRUSTED.md" or page.startswith(("docs/api/", "docs/trusted/")) and not page.endswith(".template.md")
 
 
 def lengths(tests):
@@ -47,7 +47,7 @@ def lengths(tests):
         with open(os.path.join(ROOT, page), encoding="utf-8") as file:
             found = list(sentences(file.read()))
         long = [it for it in found if len(re.findall(r"\S*\w\S*", it)) > 30]
-        tests.check(f"{page} has sentences, none of more than 30 words", len(found) > 20 and not long, long or len(found))
+        tests.check(f"{page} has sentences, none of more than 30 words", len(found) > (8 if page.endswith(".template.md") else 20) and not long, long or len(found))
 
 
 # Forms that were in these pages, and what to write in their place.

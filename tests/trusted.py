@@ -1,19 +1,25 @@
 #!/usr/bin/env python3
-"""docs/TRUSTED.md beside what tools/trusted makes of the sources, whether a second way reaches the same, what the tool does with
+"""docs/TRUSTED.md and docs/trusted/ beside what tools/trusted makes of the sources, whether a second way reaches the same, what the tool does with
 words that it can't follow, and whether specs/inner/ of each crate has just what no public contract reaches.
 
     python3 tests/trusted.py
 """
 import functools
-import importlib.machinery
-import importlib.util
 import os
 import re
 import shutil
 import subprocess
+import sys
 import tempfile
 
 from support.program import ROOT, Tests
+
+sys.path.insert(0, os.path.join(ROOT, "tools"))
+from trusting.contracts import contract_at
+from trusting.pages import pages
+from trusting.reading import Reading
+from trusting.rust import sources
+from trusting.words import OWN
 
 HEADLINE = "crates/plinq_run/specs/Headline.antt"
 RUNNING = "crates/plinq_run/src/running.rt"
@@ -253,17 +259,17 @@ def reached_otherwise(contract, others):
     return seen
 
 
-def reaches_the_same(tests, tool):
+def reaches_the_same(tests):
     """Both ways reach the same definitions from each public contract of the engine and of the library."""
     count, wrong = 0, []
-    for crate in sorted(tool.OWN):
+    for crate in sorted(OWN):
         if crate.endswith(("_tests", "_testing", "_example", "_bench")):
             continue
-        for rust in tool.sources(crate):
+        for rust in sources(crate):
             for at, line in enumerate(rust.lines):
                 if not re.match(r"\s*pub fn ", line):
                     continue
-                contract, reading = tool.contract_at(rust, at), tool.Reading()
+                contract, reading = contract_at(rust, at), Reading()
                 for word in contract.names:
                     reading.reach(word)
                 one = {(it.path, it.name) for it in reading.order if "/specs/" in it.path}
@@ -274,23 +280,17 @@ def reaches_the_same(tests, tool):
     tests.check("a second way reaches the same of each public contract", count > 200 and not wrong, wrong[:3])
 
 
-def the_tool(root=ROOT):
-    loader = importlib.machinery.SourceFileLoader("trusted_tool", os.path.join(root, "tools", "trusted"))
-    tool = importlib.util.module_from_spec(importlib.util.spec_from_loader(loader.name, loader))
-    loader.exec_module(tool)
-    return tool
-
-
 def main():
     tests = Tests()
-    made = trusted("--page")
+    for path, text in pages().items():
+        with open(os.path.join(ROOT, path), encoding="utf-8") as file:
+            tests.check(f"{path} is what tools/trusted --pages writes", file.read() == text, "make it again")
     with open(os.path.join(ROOT, "docs", "TRUSTED.md"), encoding="utf-8") as file:
-        is_same = file.read() == made.stdout
-    tests.check("docs/TRUSTED.md is what tools/trusted --page prints", made.returncode == 0 and is_same, made.stderr or "make it again")
-    figures = [int(it) for it in re.findall(r"\| (\d+) \| \d+ \|$", made.stdout, re.M)]
+        figures = {path: int(count) for path, count in re.findall(r"^\| \[.*\]\((.*)\) \| .* \| (\d+) \| \d+ \|$", file.read(), re.M)}
     with open(os.path.join(ROOT, "README.md"), encoding="utf-8") as file:
-        told = f"{figures[0]} for an ordered run, {figures[1] + figures[2]} more for the lock and its chunks"
-        tests.check("README has the page's figures", told in file.read(), told)
+        lock = sum(count for path, count in figures.items() if path.startswith("trusted/lock.md#"))
+        said = f"{figures['trusted/run.md#run-clause-ordered']} for an ordered run, {lock} for the lock and its chunks"
+        tests.check("README has the pages' figures", said in file.read(), said)
     for name, (there, elsewhere) in REACHED.items():
         seen = trusted(name)
         missing = [it for it in there if it not in seen.stdout]
@@ -302,7 +302,7 @@ def main():
     for name, says in NAMED.items():
         seen = trusted(name)
         tests.check(f"{name} is found", seen.returncode == 0 and says in seen.stdout, seen.stderr)
-    reaches_the_same(tests, the_tool())
+    reaches_the_same(tests)
     finds_lost(tests)
     stands_apart(tests)
     finds_apart(tests)

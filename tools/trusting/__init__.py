@@ -1,0 +1,1 @@
+"""What a contract rests on, read from the sources: see tools/trusted."""
