@@ -1,6 +1,7 @@
 pub mod Accumulating
 mod Carrying
 mod Delivering
+mod FirstOnes
 mod Gathering
 mod Lending
 pub mod Listing

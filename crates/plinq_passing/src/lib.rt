@@ -22,6 +22,8 @@ mod gathers;
 mod keep_first;
 mod leaving;
 mod lends;
+mod limited;
+mod limiting;
 mod lists;
 mod made;
 mod passes;

@@ -11,6 +11,8 @@ ghost use Rattle.plinq_enumerator.specs.declared.growth_fault.GrowthFault.{Growt
 
 use crate::by_threads::ByThreads;
 use crate::calling::{call_alone, call_by_threads};
+use crate::limited::Limited;
+use crate::limiting::limit_of;
 use crate::passes::{Passed, Passes};
 use crate::plain::Plain;
 use crate::planning::{growth_of, plan_of};
@@ -62,7 +64,8 @@ where
     Ok(())
 }
 
-/// Passes on what steps by position make of what is made of a source's items, by threads. The source is left once they can make no more.
+/// Passes on what steps by position make of what is made of a source's items, by threads. The source is left once they can make no more;
+/// if it is known before an item comes how many they need, it is asked for no more.
 pub fn pass_by_threads<Src, S, L, W, C, R>(
     source: Src,
     steps: S,
@@ -99,8 +102,9 @@ where
     if passed.later.has_ended() {
         return ask_alone::<S::From, C>(settings, alloc);
     }
-    let outcome = call_by_threads::<Src, S, Passes<L, W>, C, R>(
-        source,
+    let left = limit_of(&steps, &passed.later);
+    let outcome = call_by_threads::<Limited<Src>, S, Passes<L, W>, C, R>(
+        Limited { source, left },
         steps,
         ByThreads {
             merge: MergeOption::NotBuffered,

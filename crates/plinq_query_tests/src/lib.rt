@@ -7,15 +7,9 @@
 #[cfg(test)]
 mod asked_by_workers;
 #[cfg(test)]
-mod passed_on;
-#[cfg(test)]
-mod positions;
-#[cfg(test)]
 mod queries;
 #[cfg(test)]
 mod refused_room;
-#[cfg(test)]
-mod searched_positions;
 #[cfg(test)]
 mod searches;
 #[cfg(test)]

@@ -9,7 +9,7 @@ use plinq_groups::Groups;
 use plinq_query::{QueryFault, from};
 use plinq_slice::SliceSource;
 use plinq_source::{Ending, ListSource};
-use plinq_testing::says;
+use plinq_testing::{numbers, says};
 use std::alloc::{AllocError, Global};
 use std::process::Abort;
 use std::sync::Wait;
@@ -24,19 +24,6 @@ pub(crate) const WORKERS: [u64; 4] = [1, 2, 8, 64];
 struct Marked {
     number: i64,
     is_third: bool,
-}
-
-/// Some numbers that look like chance (xorshift).
-pub(crate) fn numbers(alloc: Global, seed: u64, count: u64) -> Result<Vec<i64>, AllocError> {
-    let mut number = seed;
-    let mut items = Vec::new(alloc);
-    for _item in 0..count {
-        number ^= number << 13;
-        number ^= number >> 7;
-        number ^= number << 17;
-        items.push((number % 1000) as i64)?;
-    }
-    Ok(items)
 }
 
 /// Those that 3 divides and that are below a bound.

@@ -1,19 +1,18 @@
 //! Searches of typed queries, and what sinks and closures get of them, by threads and on one thread, beside a plain loop.
-ghost use Rattle.std.specs.Prelude.{◌≡◌, int_lt, int_rem, nat_lt, pos, IfOk, IfSome, ⊤};
+ghost use Rattle.std.specs.Prelude.{◌≡◌, int_lt, int_rem, nat_lt, pos, IfOk, IfSome};
 ghost use Rattle.std.specs.Int.{cast_unsigned, w64};
 ghost use Rattle.std.specs.Ordering.{int_eq};
 ghost use Rattle.plinq_source.specs.Walked.{list_given, range_given};
 
-use crate::queries::{WORKERS, numbers};
+use crate::queries::WORKERS;
 use plinq_collect::Collect;
 use plinq_enumerator::GrowthFault;
-use plinq_merge::Sink;
 use plinq_ops::MergeOption;
 use plinq_query::{QueryFault, from};
 use plinq_run::RunFault;
 use plinq_slice::SliceSource;
 use plinq_source::{Ending, ListSource, RangeSource, SourceFault};
-use plinq_testing::{Asked, CHUNK, most_ahead};
+use plinq_testing::{Asked, CHUNK, Sizes, are_sizes, most_ahead, note, numbers};
 use std::alloc::Global;
 use std::sync::Wait;
 use std::sync::atomic::{AtomicU64, Ordering};
@@ -343,30 +342,6 @@ fn a_search_meets_a_refusal_only_if_it_has_found_nothing_before(rt: HostRuntime)
     }
 }
 
-/// A sink that notes how many items each batch has, and refuses a batch with 9 that has this item.
-#[derive(Drop)]
-pub(crate) struct Sizes {
-    pub(crate) sizes: Vec<usize>,
-    pub(crate) refused: i64,
-}
-
-impl Sink for Sizes {
-    type Item = i64;
-
-    ghost accepts = { λ s batch s'. ⊤ };
-
-    ghost refuses = { λ s batch code s'. ⊤ };
-
-    fn batch(&mut self, batch: &[i64]) -> Result<(), u32> {
-        for item in batch {
-            if *item == self.refused {
-                return Err(9);
-            }
-        }
-        self.sizes.push(batch.len()).map_err(|_| 1)
-    }
-}
-
 /// The sizes of the batches of the numbers below this one, of which a sink refuses one, and how the run ended.
 fn sizes_of<R: Clock + Threads + Wait + Sync>(
     rt: &R,
@@ -395,17 +370,6 @@ fn sizes_of<R: Clock + Threads + Wait + Sync>(
         None => query.run_into(rt, alloc, &mut sink),
     };
     Some((sink.sizes, outcome))
-}
-
-pub(crate) fn are_sizes(
-    found: &Option<(Vec<usize>, Result<(), QueryFault>)>,
-    wanted: &[usize],
-    ended: Result<(), QueryFault>,
-) -> bool {
-    match found {
-        Some((sizes, outcome)) => sizes.as_slice() == wanted && *outcome == ended,
-        None => false,
-    }
 }
 
 #[test]
@@ -491,15 +455,6 @@ fn called_on_one_thread(count: u64) -> Option<(i64, Result<(), QueryFault>)> {
         )
         .try_for_each(&mut |it: (i64, bool)| note(&mut next, it));
     Some((next, outcome))
-}
-
-/// Counts the numbers from 0 on. One that isn't the next is answered by the code 1, a marked one by 7.
-pub(crate) fn note(next: &mut i64, it: (i64, bool)) -> Result<(), u32> {
-    if it.0 != *next {
-        return Err(1);
-    }
-    *next = next.wrapping_add(1);
-    if it.1 { Err(7) } else { Ok(()) }
 }
 
 #[test]

@@ -1,9 +1,10 @@
 //! The greatest of what a query makes, by threads and on one thread, beside a list that is kept in order.
 ghost use Rattle.std.specs.Prelude.{◌≡◌, int_rem, pos};
 
-use crate::queries::{WORKERS, numbers};
+use crate::queries::WORKERS;
 use plinq_query::{QueryFault, from};
 use plinq_slice::SliceSource;
+use plinq_testing::numbers;
 use std::alloc::{AllocError, Global};
 use std::sync::Wait;
 use std::test::*;

@@ -1,2 +1,3 @@
+pub mod Enough
 pub mod Makes
 pub mod Means

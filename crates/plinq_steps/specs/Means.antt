@@ -176,7 +176,7 @@ pub or_right : (a b : Bool) → (a || b) ≡ false → b ≡ false
 or_right false b is = is
 or_right true b is = absurd (cc)
 
-or_true : (a : Bool) → (a || true) ≡ true
+pub or_true : (a : Bool) → (a || true) ≡ true
 or_true false = refl
 or_true true = refl
 

@@ -1,4 +1,5 @@
-ghost use Rattle.std.specs.Prelude.{◌≡◌, Option, List, [], Bool, true, false, length, ◌≤◌};
+ghost use Rattle.std.specs.Prelude.{◌≡◌, Option, IfSome, List, [], Bool, true, false, length, ◌≤◌};
+ghost use Rattle.plinq_steps.specs.Enough.{IsEnough, Brings};
 ghost use Rattle.plinq_steps.specs.Means.{GoesOn};
 
 /// Steps that go by an item's position: items come to them one after another, and they remember what came.
@@ -35,6 +36,20 @@ pub trait Positional {
     /// Whether they make no more, whatever comes.
     fn has_ended(&self) -> bool
         ensures { result ≡ ended self.now };
+
+    /// After how many items it is decided what these steps make, if that is known before one comes. So no more need be asked for.
+    fn enough(&self) -> Option<u64>
+        ensures { IfSome result (λ n. IsEnough (means self.now) n) }
+    {
+        None
+    }
+
+    /// Of how many items these steps make so many, if that is known before one comes.
+    fn needs(&self, count: u64) -> Option<u64>
+        ensures { IfSome result (λ n. Brings (means self.now) count n) }
+    {
+        None
+    }
 
     ghost one_call: { (s : Self) → in_one_way s → (a b : is_called s) → a ≡ b };
 

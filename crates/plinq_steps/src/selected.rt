@@ -34,6 +34,10 @@ impl<S: Steps, F: Fn(S::To) -> U, U: Copy> Steps for Selected<S, F> {
         }
     }
 
+    fn keeps_all(&self) -> bool {
+        self.before.keeps_all()
+    }
+
     ghost one_call = { λ s way. ×_prop (Π_prop way.0) (S.one_call s.before way.1) };
 
     ghost makes_some = { λ s some x. some_then (S.makes s.before x) (Selects (F.post s.by)) (S.makes_some s.before some.1 x)

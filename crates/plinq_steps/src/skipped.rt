@@ -47,6 +47,17 @@ impl<P: Positional> Positional for Skipped<P> {
         self.before.has_ended()
     }
 
+    fn enough(&self) -> Option<u64> {
+        self.before.enough()
+    }
+
+    fn needs(&self, count: u64) -> Option<u64> {
+        match self.left.checked_add(count) {
+            Some(all) => self.before.needs(all),
+            None => None,
+        }
+    }
+
     ghost one_call = { λ s way. P.one_call s.before way };
 
     ghost goes_on = { λ s one more g d means x o t is. follows_on g d means x o

@@ -54,6 +54,10 @@ impl<P: Positional, F: Fn(P::To) -> bool> Positional for SkippedWhile<P, F> {
         self.before.has_ended()
     }
 
+    fn enough(&self) -> Option<u64> {
+        self.before.enough()
+    }
+
     ghost one_call = { λ s way. ×_prop (Π_prop way.0) (P.one_call s.before way.1) };
 
     ghost goes_on = { λ s one more g d means x o t is. by_on means (F.post t.by) (λ y b gives. subst (λ v. F.post v y b) (sym is.0) gives)

@@ -36,6 +36,10 @@ impl<T: Copy> Steps for Start<T> {
         Some(x)
     }
 
+    fn keeps_all(&self) -> bool {
+        true
+    }
+
     ghost one_call = { λ s way a b. refl };
 
     ghost makes_some = { λ s some x. some_item x };

@@ -1,4 +1,5 @@
-ghost use Rattle.std.specs.Prelude.{◌≡◌, Option};
+ghost use Rattle.std.specs.Prelude.{◌≡◌, Option, true};
+ghost use Rattle.plinq_steps.specs.Enough.{KeepsAll};
 
 /// What the steps of a query make of an item of its source, each a closure.
 pub trait Steps {
@@ -27,6 +28,13 @@ pub trait Steps {
     fn step(&self, x: Self::From) -> Option<Self::To>
         requires { is_called self.now }
         ensures { makes self.now x result };
+
+    /// Whether something is made of each item, so far as that is known before one comes.
+    fn keeps_all(&self) -> bool
+        ensures { result ≡ true → KeepsAll (makes self.now) }
+    {
+        false
+    }
 
     ghost one_call: { (s : Self) → in_one_way s → (a b : is_called s) → a ≡ b };
 

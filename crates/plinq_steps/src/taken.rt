@@ -47,6 +47,13 @@ impl<P: Positional> Positional for Taken<P> {
         self.left == 0 || self.before.has_ended()
     }
 
+    fn enough(&self) -> Option<u64> {
+        match self.before.enough() {
+            Some(n) => Some(n),
+            None => self.before.needs(self.left),
+        }
+    }
+
     ghost one_call = { λ s way. P.one_call s.before way };
 
     ghost goes_on = { λ s one more g d means x o t is. follows_on g d means x o

@@ -44,6 +44,10 @@ impl<P: Positional, S: Steps<From = P::To>> Positional for Then<P, S> {
         self.before.has_ended()
     }
 
+    fn enough(&self) -> Option<u64> {
+        self.before.enough()
+    }
+
     ghost one_call = { λ s way. ×_prop (S.one_call s.steps way.0) (P.one_call s.before way.1) };
 
     ghost goes_on = { λ s one more g d means x o t is. by_on means (S.makes t.steps) (λ y b gives. subst (λ v. S.makes v y b) (sym is.0) gives)

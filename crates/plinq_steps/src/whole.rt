@@ -43,6 +43,10 @@ impl<T: Copy> Positional for Whole<T> {
         false
     }
 
+    fn needs(&self, count: u64) -> Option<u64> {
+        Some(count)
+    }
+
     ghost one_call = { λ s way a b. refl };
 
     ghost goes_on = { λ s one more g d means x o t is. unchanged_on g d means x o is };

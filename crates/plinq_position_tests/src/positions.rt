@@ -3,19 +3,20 @@ ghost use Rattle.std.specs.Prelude.{◌≡◌, int_lt, int_rem, pos, IfOk, IfSom
 ghost use Rattle.std.specs.Ordering.{int_eq};
 ghost use Rattle.plinq_source.specs.Walked.{list_given, range_given};
 
-use crate::queries::{WORKERS, numbers};
 use plinq_aggregate::Sum;
 use plinq_groups::Groups;
 use plinq_query::{QueryFault, from};
 use plinq_slice::SliceSource;
 use plinq_source::{Ending, ListSource, RangeSource, SourceFault};
-use plinq_testing::{Asked, CHUNK, most_ahead};
+use plinq_testing::{Asked, CHUNK, most_ahead, numbers};
 use std::alloc::{AllocError, Global};
 use std::sync::Wait;
 use std::sync::atomic::{AtomicU64, Ordering};
 use std::test::*;
 use std::thread::Threads;
 use std::time::Clock;
+
+pub(crate) const WORKERS: [u64; 4] = [1, 2, 8, 64];
 
 /// What is asked: how many are skipped, and how many taken of the rest, of the even numbers; and from which number on, and up to
 /// which, of all.

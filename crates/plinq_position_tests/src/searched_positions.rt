@@ -1,11 +1,11 @@
 //! Searches of what steps by position leave, by threads and on one thread, beside a plain loop.
 ghost use Rattle.std.specs.Prelude.{◌≡◌, int_lt};
 
-use crate::positions::{from_zero, most, refusing};
-use crate::queries::{WORKERS, numbers};
+use crate::positions::{WORKERS, from_zero, most, refusing};
 use plinq_query::{QueryFault, from};
 use plinq_slice::SliceSource;
 use plinq_source::Ending;
+use plinq_testing::numbers;
 use std::alloc::Global;
 use std::sync::Wait;
 use std::sync::atomic::{AtomicU64, Ordering};

@@ -1,14 +1,13 @@
 //! What sinks and closures get of what steps by position leave, by threads and on one thread.
 ghost use Rattle.std.specs.Prelude.{◌≡◌, int_lt, pos};
 
-use crate::positions::{from_zero, most, refusing};
-use crate::queries::WORKERS;
-use crate::searches::{Sizes, are_sizes, note};
+use crate::positions::{WORKERS, from_zero, most, refusing};
 use plinq_collect::Collect;
 use plinq_ops::MergeOption;
 use plinq_query::{QueryFault, from};
 use plinq_run::RunFault;
 use plinq_source::{Ending, RangeSource};
+use plinq_testing::{Sizes, are_sizes, note};
 use std::alloc::Global;
 use std::sync::Wait;
 use std::sync::atomic::{AtomicU64, Ordering};
