@@ -46,6 +46,8 @@ def answers(tests, name, prefix):
             program = shutil.which("plinq", path=how["env"]["PATH"])
         seen = run(["run", "--merge", "not"], document, program, cwd="/", **how)
         tests.check(f"{name}: {program} answers", seen == wanted, seen)
+    seen = run(["plinq", "run", "--merge", "not"], document, "/bin/sh", cwd=f"{prefix}/bin")
+    tests.check(f"{name}: the start script answers by its name alone", seen == wanted, seen)
     seen = run(["--version"], b"", f"{prefix}/bin/plinq", cwd="/")
     tests.check(f"{name}: its version", seen == Outcome(0, f"plinq {version()[0]}\n".encode(), b""), seen)
     os.remove(f"{prefix}/linked")
