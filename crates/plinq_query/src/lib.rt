@@ -7,8 +7,8 @@
 //! - [`Query::to_vec_and_ending`] has what came before a refusal as well.
 //! - [`Query::first`], [`Query::element_at`], [`Query::any`], [`Query::all`] and [`Query::contains`] leave the source once their
 //!   answer is known.
-//! - [`Query::take`], [`Query::skip`], [`Query::take_while`] and [`Query::skip_while`] go by an item's position, on the thread that
-//!   asks ([`Merged`]).
+//! - [`Query::take`], [`Query::skip`], [`Query::take_while`], [`Query::skip_while`], [`Query::index`] and [`Query::zip`] go by an
+//!   item's position, on the thread that asks ([`Merged`]).
 //! - [`Query::for_each`], [`Query::try_for_each`] and [`Query::run_into`] pass on what is made as it comes, in the order of the
 //!   source.
 //! - A closure serves if its contract says that it may always be called, in one way, and that it has one answer to each item.
@@ -36,7 +36,7 @@ mod tops;
 pub use merged::Merged;
 pub use plinq_passing::{ByThreads, QueryFault};
 pub use plinq_steps::{
-    Filtered, Positional, Selected, Skipped, SkippedWhile, Start, Steps, Taken, TakenWhile, Then,
-    Whole,
+    Filtered, Indexed, Positional, Selected, Skipped, SkippedWhile, Start, Steps, Taken,
+    TakenWhile, Then, Whole, Zipped,
 };
 pub use query::{OneThread, Query, from};

@@ -2,8 +2,8 @@ ghost use Rattle.std.specs.Prelude.{◌≡◌, false};
 
 use crate::query::Query;
 use plinq_steps::{
-    Filtered, Positional, Selected, Skipped, SkippedWhile, Start, Steps, Taken, TakenWhile, Then,
-    Whole,
+    Filtered, Indexed, Positional, Selected, Skipped, SkippedWhile, Start, Steps, Taken,
+    TakenWhile, Then, Whole, Zipped,
 };
 
 /// A query whose items, once they are in the order of the source, go through steps by position on the thread that asks.
@@ -84,6 +84,40 @@ impl<Src, S: Steps, B> Query<Src, S, B> {
             },
         }
     }
+
+    /// Each item that the steps make beside its position, from 0 on (.NET's `Index`, Rust's `enumerate`).
+    ///
+    /// ```text
+    /// let found = from(SliceSource::new(&lines)?)
+    ///     .as_parallel()
+    ///     .index()
+    ///     .filter(|p: (u64, &str)| -> bool ensures { result ≡ nat_lt p.0 100 } { p.0 < 100 })
+    /// ```
+    pub fn index(self) -> Merged<Src, S, B, Indexed<Whole<S::To>>>
+        ensures { (result.query ≡ self) × (result.then.next ≡ 0) }
+    {
+        Merged {
+            query: self,
+            then: Indexed {
+                before: Whole::new(),
+                next: 0,
+            },
+        }
+    }
+
+    /// Each item that the steps make beside the one of a list that stands at its position, up to the end of either (.NET's `Zip`,
+    /// rayon's `zip`). The source is left once the list is over.
+    pub fn zip<'a, U: Copy>(self, with: &'a [U]) -> Merged<Src, S, B, Zipped<'a, Whole<S::To>, U>>
+        ensures { (result.query ≡ self) × (result.then.with.now ≡ with.now) }
+    {
+        Merged {
+            query: self,
+            then: Zipped {
+                before: Whole::new(),
+                with,
+            },
+        }
+    }
 }
 
 impl<Src, S, B, L: Positional> Merged<Src, S, B, L> {
@@ -137,6 +171,32 @@ impl<Src, S, B, L: Positional> Merged<Src, S, B, L> {
                 before: self.then,
                 by,
                 past: false,
+            },
+        }
+    }
+
+    /// As [`Query::index`], of what the steps before it make.
+    pub fn index(self) -> Merged<Src, S, B, Indexed<L>>
+        ensures { (result.query ≡ self.query) × (result.then.before ≡ self.then) × (result.then.next ≡ 0) }
+    {
+        Merged {
+            query: self.query,
+            then: Indexed {
+                before: self.then,
+                next: 0,
+            },
+        }
+    }
+
+    /// As [`Query::zip`], of what the steps before it make.
+    pub fn zip<'a, U: Copy>(self, with: &'a [U]) -> Merged<Src, S, B, Zipped<'a, L, U>>
+        ensures { (result.query ≡ self.query) × (result.then.before ≡ self.then) × (result.then.with.now ≡ with.now) }
+    {
+        Merged {
+            query: self.query,
+            then: Zipped {
+                before: self.then,
+                with,
             },
         }
     }

@@ -89,6 +89,19 @@ impl<Src, S> Query<Src, S, OneThread> {
 }
 
 impl<Src, S, C> Query<Src, S, ByThreads<C>> {
+    /// Has the query run by the thread that asks it (.NET's `AsSequential`). The settings of a query by threads are dropped.
+    pub fn as_sequential(self) -> Query<Src, S, OneThread>
+    where
+        C: Drop,
+        ensures { (result.source ≡ self.source) × (result.steps ≡ self.steps) }
+    {
+        Query {
+            source: self.source,
+            steps: self.steps,
+            by: OneThread,
+        }
+    }
+
     /// How many workers the query has, from 1 to 64 (.NET's `WithDegreeOfParallelism`).
     pub fn with_degree(self, degree: u64) -> Query<Src, S, ByThreads<C>>
         ensures { (result.source ≡ self.source) × (result.steps ≡ self.steps) × (result.by.degree ≡ degree) × (result.by.growth ≡ self.by.growth)

@@ -1,3 +1,4 @@
+pub mod Beside
 pub mod Enough
 pub mod Makes
 pub mod Means

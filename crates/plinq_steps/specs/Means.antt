@@ -168,7 +168,7 @@ module _ {Y : Type 0} where
 
 -- ---- what holds of all of them
 
-or_left : (a b : Bool) → (a || b) ≡ false → a ≡ false
+pub or_left : (a b : Bool) → (a || b) ≡ false → a ≡ false
 or_left false b is = refl
 or_left true b is = absurd (cc)
 

@@ -2,7 +2,7 @@
 //!
 //! - [`Steps`] go by the item alone, so threads may apply them to items in any order: [`Start`], [`Selected`], [`Filtered`].
 //! - [`Positional`] steps go by where an item stands, so items come to them one after another: [`Whole`], [`Taken`], [`Skipped`],
-//!   [`TakenWhile`], [`SkippedWhile`], and [`Then`] other steps.
+//!   [`TakenWhile`], [`SkippedWhile`], [`Indexed`], [`Zipped`], and [`Then`] other steps.
 //!
 //! A closure's contract says what it may return; a step says what may come of it, as a relation (`Steps::makes`,
 //! `Positional::turns`). Steps by position also say what they make of a list, and whether that is decided, whatever comes after
@@ -11,6 +11,7 @@
 
 mod equal;
 mod filtered;
+mod indexed;
 mod positional;
 mod selected;
 mod skipped;
@@ -21,9 +22,11 @@ mod taken;
 mod taken_while;
 mod then;
 mod whole;
+mod zipped;
 
 pub use equal::Equal;
 pub use filtered::Filtered;
+pub use indexed::Indexed;
 pub use positional::Positional;
 pub use selected::Selected;
 pub use skipped::Skipped;
@@ -34,3 +37,4 @@ pub use taken::Taken;
 pub use taken_while::TakenWhile;
 pub use then::Then;
 pub use whole::Whole;
+pub use zipped::Zipped;
