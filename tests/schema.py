@@ -221,6 +221,8 @@ def as_a_program(tests):
         tests.check("what can't be read", (seen.status, seen.output) == (5, b"") and seen.errors.startswith(b"plinq-check: read failed: "), seen)
     seen = checked(["--help"])
     tests.check("help", (seen.status, seen.errors) == (0, b"") and b"plinq-check < DOCUMENT" in seen.output, seen)
+    for level in ("1", "2"):
+        tests.check(f"help with PYTHONOPTIMIZE={level}", checked(["--help"], env=os.environ | {"PYTHONOPTIMIZE": level}) == seen, seen)
     for streams, words, status, errors in (
         (">/dev/full", "--help", 5, b"plinq-check: write failed: [Errno 28] No space left on device\n"),
         ("2>/dev/full", "", 2, b""),
