@@ -1,6 +1,6 @@
 #!/usr/bin/env python3
 """Takes the blocks of code out of docs/LIBRARY.md and tries them, in a repository of its own that has only the crates which the
-page names, and imports each name of the page's tables through the prelude. Nothing is proved.
+page names, and imports each name of the page's tables from the prelude or the crate that the page says. Nothing is proved.
 
     python3 tests/library.py
 """
@@ -18,7 +18,7 @@ ghost use Rattle.std.specs.Prelude.{◌≡◌, int_lt, nat_le, pos, Ok};
 
 use anyhow::Result;
 use plinq_prelude::*;
-use plinq_prelude::{NAMES};
+NAMES
 use std::alloc::Global;
 use std::sync::Wait;
 use std::thread::Threads;
@@ -39,6 +39,9 @@ fn main(rt: HostRuntime) -> Result<()> {
     Ok(())
 }
 """
+
+# what Rust has
+STD = {"Option", "Reverse", "String", "Vec"}
 
 # the function that each block stands in, by how the block begins; each answers how many items it was given
 FUNCTIONS = {
@@ -91,14 +94,35 @@ def blocks(page):
 
 
 def names(page):
-    """The types, functions and modules that the page's tables name, but for the one on groups, whose crates the prelude leaves out."""
+    """The types, functions and modules that the page's tables name."""
     found = set()
-    for title, column in (("A query and its answer", -1), ("The three traits", 0)):
+    for title, column in (("PLINQ's class, row by row", -1), ("The engine's queries", 0), ("Aggregates and groups", 0), ("The three traits", 0)):
         section = page.split(f"\n## {title}\n")[1].split("\n## ")[0]
         for row in re.findall(r"^\|(.*)\|$", section, flags=re.M):
             for code in re.findall(r"`([^`]+)`", re.split(r"(?<!\\)\|", row)[column]):
-                found |= set(re.findall(r"\b[A-Z]\w+", code)) | set(re.findall(r"^([a-z]\w*)(?:::|\((?:rt|alloc|\.\.))", code))
-    return found
+                found |= set(re.findall(r"(?<!:)\b[A-Z]\w+", code)) | set(re.findall(r"^([a-z]\w*)(?:::|\((?:rt|alloc|\.\.))", code))
+    return found - STD
+
+
+def exported(crate):
+    """The names that a crate exports."""
+    with open(os.path.join(ROOT, "crates", crate, "src", "lib.rt"), encoding="utf-8") as file:
+        text = file.read()
+    found = re.findall(r"^pub use [\w:]+::(?:\{([^}]*)\}|(\w+));", text, re.M) + [("", it) for it in re.findall(r"^pub mod (\w+);", text, re.M)]
+    return {it.strip() for names, name in found for it in (names or name).split(",") if it.strip()}
+
+
+def imports(found, page):
+    """The line for each crate that exports some of these names, the prelude before those that the page names beside it; and what
+    none exports."""
+    lines, crates = [], []
+    for crate in ("plinq_prelude", *re.findall(r"in `(plinq_\w+)`", page.split("\nGroups and ")[1].split("\n")[0])):
+        there = found & exported(crate)
+        if there:
+            lines.append(f"use {crate}::{{{', '.join(sorted(there))}}};")
+            crates.append(crate)
+        found = found - there
+    return lines, crates, found
 
 
 def needed(listed, crates):
@@ -138,9 +162,11 @@ def main():
     text, without = program(page)
     tests.check("each block has its place in the program", not without, without)
     imported = names(page)
-    tests.check("the tables name what is imported", len(imported) > 20, sorted(imported))
-    text = text.replace("NAMES", ", ".join(sorted(imported)))
+    uses, beside, none = imports(imported, page)
+    tests.check("the tables name what is imported", len(imported) > 40 and not none, sorted(none or imported))
+    text = text.replace("NAMES", "\n".join(uses))
     with tempfile.TemporaryDirectory() as top:
+        below |= needed(beside, crates)
         for crate in sorted(below):
             shutil.copytree(os.path.join(ROOT, "crates", crate), os.path.join(top, "crates", crate), ignore=shutil.ignore_patterns("out"))
         shutil.copy(os.path.join(ROOT, "HANDLES"), top)
@@ -149,7 +175,7 @@ def main():
             file.write(text)
         with open(os.path.join(top, "crates.txt"), "w", encoding="utf-8") as file:
             file.writelines(f"{it}: {' '.join(crates[it])}\n" for it in sorted(below))
-            file.write(f"my_program: {line} anyhow\n")
+            file.write(f"my_program: {line} {' '.join(beside[1:])} anyhow\n")
         tried = subprocess.run(
             ["rt", "try"], cwd=os.path.join(top, "crates", "my_program"), stdin=subprocess.DEVNULL, capture_output=True, timeout=3 * HANGS
         )
