@@ -72,6 +72,7 @@ NAMED = {
     "plinq_crew::conduct": "ghost makes: { Self → ChunkResult T → ChunkResult Self.Part → Type 0 };",
     "plinq_groups::first_group_is_of_the_first_item": "abbrev pub grouping",
     "plinq_wait::WaitQueue::wake": "pub fn wake(&self)",
+    "WaitQueue::wake": "pub fn wake(&self)",
 }
 PLANS = "ghost use Rattle.plinq_run.specs.inner.PlanAnswers.{MayTake};\npub fn taken()\n    ensures { MayTake }\n{}\n"
 IS_REACHED = "plinq_run/specs/inner/PlanAnswers.antt: a public contract reaches it"
@@ -299,6 +300,9 @@ def main():
     # (several types have one)
     seen = trusted("new")
     tests.check("a name that several functions have", seen.returncode == 1 and "public functions have the name new" in seen.stderr, seen.stderr)
+    seen = trusted("Query::to_vec")
+    listed = "\n  plinq_query::by_threads_calls::to_vec\n  plinq_query::on_one_thread::to_vec\n"
+    tests.check("a name that several functions have lists them", seen.returncode == 1 and seen.stderr.endswith(listed), seen.stderr)
     for name, says in NAMED.items():
         seen = trusted(name)
         tests.check(f"{name} is found", seen.returncode == 0 and says in seen.stdout, seen.stderr)

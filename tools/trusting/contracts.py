@@ -8,14 +8,15 @@ from .words import OWN, STD_TYPES, Definition, Lost, indent_of
 
 def functions(name):
     """The files and lines in which a public function of this name stands: `run`, `CRATE::run`, `CRATE::MODULE::run`,
-    `CRATE::Type::new`."""
+    `CRATE::Type::new`, `Type::new`."""
     *path, last = name.split("::")
-    for folder in sorted(OWN):
-        if folder.endswith(("_tests", "_testing")) or path and folder != path[0]:
+    crates = [path.pop(0)] if path and path[0] in OWN else sorted(OWN)
+    for folder in crates:
+        if folder.endswith(("_tests", "_testing")):
             continue
         for rust in sources(folder):
             for number, line in enumerate(rust.lines):
-                if re.match(rf"\s*pub fn {last}\b", line) and path[1:] in ([], [rust.module], [owner_of(rust, number)]):
+                if re.match(rf"\s*pub fn {last}\b", line) and path in ([], [rust.module], [owner_of(rust, number)]):
                     yield rust, number
 
 
@@ -49,7 +50,8 @@ def contract(name):
     name, _, clause_name = name.partition(":") if "::" not in name else (name, "", "")
     found = list(functions(name))
     if len(found) != 1:
-        raise Lost(f"{len(found)} public functions have the name {name}: give its crate before it, and its type or file")
+        others = "".join(f"\n  {rust.crate}::{rust.module.replace('/', '::')}::{name.rpartition('::')[2]}" for rust, _ in found)
+        raise Lost(f"{len(found)} public functions have the name {name}{': take one of' if found else ''}{others}")
     return contract_at(*found[0], clause_name)
 
 
