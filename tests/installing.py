@@ -16,15 +16,17 @@ INSTALL = os.path.join(ROOT, "tools", "install")
 FILES = {
     "bin/plinq",
     "bin/plinq-check",
+    "bin/plinq-explain",
     "lib/plinq/plinq",
     "share/bash-completion/completions/plinq",
     "share/fish/vendor_completions.d/plinq.fish",
     "share/man/man1/plinq-check.1",
+    "share/man/man1/plinq-explain.1",
     "share/man/man1/plinq.1",
     "share/plinq/plinq.schema.json",
     "share/zsh/site-functions/_plinq",
 }
-PROGRAMS = {"bin/plinq", "bin/plinq-check", "lib/plinq/plinq"}
+PROGRAMS = {"bin/plinq", "bin/plinq-check", "bin/plinq-explain", "lib/plinq/plinq"}
 
 
 def files(folder):
@@ -56,6 +58,8 @@ def answers(tests, name, prefix):
     tests.check(f"{name}: within PLINQ_MEMORY", seen == Outcome(5, b"", b"plinq: out of memory\n"), seen)
     seen = run([], b"[", f"{prefix}/bin/plinq-check")
     tests.check(f"{name}: plinq-check checks", seen.status == 2 and seen.errors.startswith(b"plinq-check: not JSON: line 1, column 2: "), seen)
+    seen = run([], document, f"{prefix}/bin/plinq-explain", cwd="/", env={"PATH": "/usr/bin:/bin"})
+    tests.check(f"{name}: plinq-explain explains", (seen.status, seen.errors) == (0, b"") and b"4 workers take chunks" in seen.output, seen)
 
 
 def prefixes(tests, folder):
@@ -97,7 +101,7 @@ def versions():
 
 
 def pages(tests):
-    for name in ("plinq.1", "plinq-check.1"):
+    for name in ("plinq.1", "plinq-check.1", "plinq-explain.1"):
         with open(os.path.join(ROOT, "share", name), encoding="utf-8") as file:
             head = file.readline()
         number, day = version()

@@ -77,7 +77,7 @@ def main():
     for about in ("not JSON", "wrong shape", "step K: unknown", "refused 1", "refused 2"):
         told = next(it for it in lines if it.startswith(f"{about}  "))[len(about) :].strip()
         tests.check(f"the man page explains {about} as help does", f"{about}\n{told}.".lower() in page.lower().replace("\nit is ", "\n"), told)
-    for name in ("plinq.1", "plinq-check.1"):
+    for name in ("plinq.1", "plinq-check.1", "plinq-explain.1"):
         tests.check(f"{name} has no fault", mandoc(f"{SHARE}/{name}") == "", mandoc(f"{SHARE}/{name}"))
 
     tests.check("bash completes the commands", completed("plinq", "") == [*commands, "--help", "--version"], completed("plinq", ""))
