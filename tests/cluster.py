@@ -13,6 +13,7 @@ import importlib
 import io
 import json
 import logging
+import multiprocessing
 import os
 import pathlib
 import pickle
@@ -536,6 +537,36 @@ def early_signals(tests, folder):
             tests.check(f"{number.name} {seconds} s after the start of a local cluster", seen == (-number, b"", []), seen)
 
 
+def writes(folder):
+    """Makes a folder again and again."""
+    while True:
+        with contextlib.suppress(OSError):
+            os.makedirs(f"{folder}/late", exist_ok=True)
+
+
+def remade_folder(tests, folder):
+    """A process that is started while a local cluster ends, and makes its folder anew: both are gone afterwards."""
+    from plinq_shards import workers
+
+    end_processes, calls = workers.end_processes, []
+
+    def too_early():
+        end_processes()
+        calls.append(1)
+        if len(calls) == 1:
+            multiprocessing.get_context("fork").Process(target=writes, args=(own,), daemon=True).start()
+            wait_until(lambda: os.path.exists(f"{own}/late"), "the folder")
+
+    workers.end_processes = too_early
+    try:
+        with workers.own_folder() as own:
+            is_there = os.path.isdir(own)
+    finally:
+        workers.end_processes = end_processes
+    seen = (is_there, os.path.exists(own), multiprocessing.active_children(), len(calls) > 1)
+    tests.check("a folder that is made anew while its cluster ends", seen == (True, False, [], True), seen)
+
+
 def few_shards(tests, folder):
     """What ends early asks for few shards."""
     text = text_of({"range": [0, 2**40]}, ["filter", "even"], ["take", 10])
@@ -730,7 +761,7 @@ def help_and_progress(tests, folder):
 
 def processes(tests, folder):
     """What wants a cluster of processes."""
-    for it in (lost_worker, last_worker, hung_worker, early_signals, lost_answer, deadly_shard, few_shards, other_programs, installed_programs, other_users, help_and_progress):
+    for it in (lost_worker, last_worker, hung_worker, early_signals, remade_folder, lost_answer, deadly_shard, few_shards, other_programs, installed_programs, other_users, help_and_progress):
         it(tests, folder)
     with Machines(folder) as machines:
         for name in ("e", "f"):

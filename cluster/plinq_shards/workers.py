@@ -4,8 +4,10 @@ import importlib.util
 import logging
 import multiprocessing
 import os
+import shutil
 import signal
 import tempfile
+import time
 import warnings
 
 import cloudpickle
@@ -20,6 +22,8 @@ PATIENCE = 10
 PATIENCE_FOR_WORKERS = 30
 # How many seconds each worker of a local cluster may take to start beside the others, on a busy machine.
 SECONDS_TO_START = 2
+# How many seconds a local cluster's processes may take to end.
+SECONDS_TO_END = 5
 
 
 def be_quiet():
@@ -114,21 +118,35 @@ def end_processes():
 
 
 @contextlib.contextmanager
+def own_folder():
+    """A folder for a cluster's processes. It is gone only once they are: one that was started again meanwhile makes it anew."""
+    folder = tempfile.mkdtemp(prefix="plinq-cluster-")
+    # (the folder is a newer Dask's scheduler's as well, which may come late)
+    with dask.config.set({"temporary-directory": folder}):
+        try:
+            yield folder
+        finally:
+            latest = time.monotonic() + SECONDS_TO_END
+            while True:
+                end_processes()
+                shutil.rmtree(folder, ignore_errors=True)
+                if not multiprocessing.active_children() and not os.path.exists(folder) or time.monotonic() > latest:
+                    break
+                time.sleep(0.05)
+
+
+@contextlib.contextmanager
 def local(count, patience=0):
     """Such a cluster, for as long as it is wanted."""
     security = own_keys()
-    # (the folder is a newer Dask's scheduler's as well, which may come late)
-    with tempfile.TemporaryDirectory(prefix="plinq-cluster-", ignore_cleanup_errors=True) as folder, dask.config.set({"temporary-directory": folder}):
+    with own_folder() as folder:
+        cluster = started(count, security, folder, patience)
         try:
-            cluster = started(count, security, folder, patience)
-            try:
-                with distributed.Client(cluster) as client:
-                    yield client
-            finally:
-                with contextlib.suppress(Exception):
-                    cluster.close(timeout=10)
+            with distributed.Client(cluster) as client:
+                yield client
         finally:
-            end_processes()
+            with contextlib.suppress(Exception):
+                cluster.close(timeout=10)
 
 
 def missing_key():
