@@ -19,6 +19,7 @@ GROWTHS = (("by time", CHOSEN), ("up to 512", [1, 3, 512]), ("up to 8,192", [1, 
 WORK = {
     "100,000,000 numbers, the even ones summed": {"source": {"range": [0, 100_000_000]}, "query": [["filter", "even"]], "aggregate": "sum"},
     "10,000,000 numbers, half of them printed": {"source": {"range": [0, 10_000_000]}, "query": [["as_ordered"], ["select", "add", 1], ["filter", "even"], ["select", "mul", 3]]},
+    "10,000,000 numbers, delivered at once": {"source": {"range": [0, 10_000_000]}, "query": [["as_ordered"], ["with_merge", "full"], ["select", "add", 1], ["filter", "even"], ["select", "mul", 3]]},
     "20,000 numbers, each expanded to 1,000 and counted": {"source": {"range": [0, 20_000]}, "query": [["select_many", "repeat", 1_000], ["filter", "even"]], "aggregate": "count"},
     "1,000 numbers, printed": {"source": {"range": [0, 1_000]}, "query": [["as_ordered"], ["select", "add", 1]]},
 }
