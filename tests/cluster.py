@@ -26,6 +26,7 @@ import sys
 import tempfile
 import threading
 import time
+import types
 
 SYSTEM = "/usr/bin/python3"
 try:
@@ -55,6 +56,11 @@ def command(words, text, **how):
 
 def lines(numbers):
     return b"".join(b"%d\n" % it for it in numbers)
+
+
+def closes(_):
+    """What Dask raises if a client is closed while it fetches."""
+    raise Exception("after closing")
 
 
 class InProcess:
@@ -245,6 +251,15 @@ def calls(tests, local):
         said = why.line, why.status
     gone = f"plinq-cluster: scheduler {local.client.scheduler.address}: gone"
     tests.check("a call from Python: a client that is closed meanwhile", said == (gone, 5), said)
+    # (the same in the midst of fetching, where Dask's exception has no type of its own)
+    for status, wanted in (("closed", "plinq-cluster: here: gone"), ("running", "after closing")):
+        there = cluster.Cluster.__new__(cluster.Cluster)
+        there.client, there.where, there.fetched = types.SimpleNamespace(status=status), "here", closes
+        try:
+            said = there.result(None, None)
+        except Exception as why:
+            said = getattr(why, "line", str(why))
+        tests.check(f"an answer is fetched from a client that is {status}", said == wanted, said)
     # (as a newer Dask pickles a graph, and its scheduler reads it, which has no file of this folder)
     sent = pickle.dumps([cluster.Sent(it) for it in (program.answer, program.ending_of)])
     reads = "import pickle, sys; print(*(it.__name__ for it in pickle.load(sys.stdin.buffer)))"

@@ -2,6 +2,7 @@
 import asyncio
 import collections
 import concurrent.futures
+import contextlib
 import functools
 import pickle
 import time
@@ -131,9 +132,15 @@ class Cluster:
         return Asked(self, shard, self.submit(program.answer, question))
 
     def submit(self, call, words):
-        """Has a worker call this, unless the client was closed meanwhile, for which Dask has no exception of its own."""
-        try:
+        """Has a worker call this."""
+        with self.while_open():
             return self.client.submit(sent(call), words, pure=False, retries=RETRIES)
+
+    @contextlib.contextmanager
+    def while_open(self):
+        """A client that is closed meanwhile is a cluster that is gone: Dask has no exception of its own for that."""
+        try:
+            yield
         except Exception:
             if self.client.status in ("closing", "closed"):
                 raise own(f"{self.where}: gone") from None
@@ -153,7 +160,8 @@ class Cluster:
     def result(self, shard, future):
         """What a future comes to, or the one line that says why it comes to nothing."""
         try:
-            answer = self.fetched(future)
+            with self.while_open():
+                answer = self.fetched(future)
         except distributed.scheduler.KilledWorker as error:
             times, last = error.allowed_failures + 1, error.last_worker.address
             raise own(f"shard {shard.at}: lost with its worker {times} times, the last time {last}") from None
