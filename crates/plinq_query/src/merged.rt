@@ -91,7 +91,7 @@ impl<Src, S: Steps, B> Query<Src, S, B> {
     /// let found = from(SliceSource::new(&lines)?)
     ///     .as_parallel()
     ///     .index()
-    ///     .filter(|p: (u64, &str)| -> bool ensures { result ≡ nat_lt p.0 100 } { p.0 < 100 })
+    ///     .filter(|p: (u64, &str)| -> bool ensures { result ≡ nat_lt p.entry.0 100 } { p.0 < 100 })
     /// ```
     pub fn index(self) -> Merged<Src, S, B, Indexed<Whole<S::To>>>
         ensures { (result.query ≡ self) × (result.then.next ≡ 0) }
