@@ -1,5 +1,5 @@
 mod ItemLines
 pub mod LinesTaken
-mod PartWritten
+pub mod PartWritten
 mod BatchesTaken
 pub mod WrittenBytes

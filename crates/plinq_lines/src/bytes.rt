@@ -5,11 +5,14 @@ use crate::write_fault::WriteFault;
 use std::io;
 use std::io::{ErrorKind, Write};
 
-/// Writes all the bytes, each once. If the writer fails, what it took is a beginning of them.
+/// Writes all the bytes, each once. A call that was interrupted is made again.
 ///
-/// std's `write_all` says nothing of the bytes after an `Err`, and so this is a loop of its own. A call that was
-/// interrupted is made again.
-pub(crate) fn write_bytes<W: Write>(writer: &mut W, bytes: &[u8]) -> Result<(), WriteFault>
+/// std's `write_all` says nothing of the bytes after an `Err`, and so this is a loop of its own.
+///
+/// # Errors
+///
+/// [`WriteFault`] if the writer fails, or takes none of the bytes that are left. What it took is a beginning of them.
+pub fn write_bytes<W: Write>(writer: &mut W, bytes: &[u8]) -> Result<(), WriteFault>
     ensures { Writes (W.contents writer.old) (W.contents writer.new) result bytes.now }
 {
     let mut written = 0;

@@ -11,6 +11,7 @@
 //! - [`write_plan`] writes the five lines of a query's plan (`plan_text`), [`write_parts`] those of a source cut into
 //!   partitions (`properties_line`, `part_lines`, `ending_words`), [`write_history`] those of a history of requests
 //!   (`history_text`).
+//! - [`write_bytes`] writes bytes as they are.
 #![tactic(auto)]
 
 mod aggregate_lines;
@@ -30,6 +31,7 @@ mod write_fault;
 
 pub use aggregate_lines::{write_aggregate, write_value};
 pub use batch_lines::write_batch;
+pub use bytes::write_bytes;
 pub use ending_lines::write_ending;
 pub use history_lines::write_history;
 pub use line_sink::{LineSink, WRITE_FAILED};
