@@ -194,7 +194,7 @@ def finds_apart(tests):
 # A second way to find what contracts reach, which knows nothing of the tool's: by the words of texts alone.
 
 USES = re.compile(r"^\s*(?:ghost |pub )?use Rattle\.(plinq_\w+)\.specs\.((?!declared|contracts)[\w.]+?)\.\{(.*)\};?$", re.M)
-BEGINS = re.compile(r"^ *(?:abbrev )?(?:pub )?(?:record |data )?([^\s:(){}]+) (?:[({].*)?: ")
+BEGINS = re.compile(r"^ *(?:abbrev |unfoldable )?(?:pub )?(?:record |data )?([^\s:(){}]+) (?:[({].*)?: ")
 WORDS = re.compile(r"(?<!\.)[^\s(){}\[\],;.\"λ⟦⟧«»]+")
 BOUND = re.compile(r"[({]((?:[^\s:(){}]+ )+):")
 

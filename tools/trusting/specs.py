@@ -56,7 +56,7 @@ class Specs:
 
     @staticmethod
     def head(text):
-        return re.match(r"(?:abbrev )?(?:pub )?(record |data )?(\S+)", text).groups()
+        return re.match(r"(?:abbrev |unfoldable )?(?:pub )?(record |data )?(\S+)", text).groups()
 
     def belongs(self, first, depth, line):
         """Whether a line goes on with the declaration: it is deeper, or an equation of the same name."""
@@ -70,7 +70,7 @@ class Specs:
     @staticmethod
     def is_equation(name, text):
         if "◌" in name:
-            return bool(re.search(r"(?:^|\s)=(?:\s|$)", text)) and not text.startswith(("abbrev", "pub", "--"))
+            return bool(re.search(r"(?:^|\s)=(?:\s|$)", text)) and not text.startswith(("abbrev", "unfoldable", "pub", "--"))
         return text.split(" ")[0] == name
 
     def take(self, text, depth, lines, comment, headers):
@@ -97,7 +97,7 @@ class Specs:
         for header in it.headers:
             tokens += TOKEN.findall(header)
         first = it.text[0]
-        is_lemma = not first.startswith("abbrev ") and not self.head(first)[0]
+        is_lemma = not first.startswith(("abbrev ", "unfoldable ")) and not self.head(first)[0]
         said = list(itertools.takewhile(lambda line: not self.is_equation(it.name, line) and not line.startswith("unfolding"), it.text[1:]))
         for number, line in enumerate([first, *said] if is_lemma else it.text):
             code = re.sub(r"\s*--.*$", "", line) if line.strip().startswith("--") else line
