@@ -1,0 +1,3 @@
+mod BlockLaws
+mod PassLaws
+mod Streaming

@@ -1,0 +1,106 @@
+ghost use Rattle.std.specs.Prelude.{◌≡◌, true, [], Ok, Some, IfOk, flat_map};
+ghost use Rattle.plinq_text.specs.Lines.{is_whole, lines_of};
+ghost use Rattle.plinq_text.specs.Steps.{answer, answer_text, are_alone, made_text};
+ghost use Rattle.plinq_rounds.specs.inner.Blocks.{part_of};
+
+use crate::block::{Block, Span, part};
+use crate::cutting::cut_blocks;
+use plinq_collect::Same;
+use plinq_groups::{MakeOf, MapEach, MapFault};
+use plinq_mapped::to_vec_mapped;
+use plinq_ops::Query;
+use plinq_run::RunFault;
+use plinq_settings::Degree;
+use plinq_slice::list_source;
+use plinq_text::{LineStep, make_lines};
+use std::alloc::Global;
+use std::sync::Wait;
+use std::thread::Threads;
+use std::time::Clock;
+
+/// How many bytes a block has at least, but for the last.
+const BLOCK_BYTES: usize = 262_144;
+
+/// Makes the output of a block of lines.
+#[derive(Drop)]
+struct MakeBlock<'a> {
+    steps: &'a [LineStep],
+    text: &'a [u8],
+}
+
+impl<'a> MakeOf for MakeBlock<'a> {
+    type Item = Span;
+
+    type Made = Block;
+
+    ghost makes = { λ m span. Ok (Some (made_text m.steps.now (part_of m.text.now span))) };
+
+    fn make_of(&self, alloc: Global, span: Span) -> Result<Option<Block>, MapFault> {
+        let mut bytes = Vec::new(alloc);
+        match make_lines(alloc, self.steps, part(self.text, span), &mut bytes) {
+            Ok(()) => Ok(Some(Block { bytes })),
+            Err(_) => Err(MapFault::Memory),
+        }
+    }
+}
+
+/// What steps that look at each line alone make of the lines of a text, in blocks. A short text is one, as is any for one worker.
+pub(crate) fn make_blocks<R>(
+    rt: &R,
+    alloc: Global,
+    workers: Degree,
+    steps: &[LineStep],
+    text: &[u8],
+) -> Result<Vec<Block>, RunFault>
+where
+    R: Clock + Threads + Wait + Sync,
+    requires whole { is_whole text.now ≡ true }
+    requires alone { are_alone steps.now ≡ true }
+    ensures bytes { IfOk result (λ blocks. flat_map (λ b. b) blocks.items ≡ answer_text steps.now text.now) }
+    ensures lines { IfOk result (λ blocks. flat_map lines_of blocks.items ≡ answer steps.now (lines_of text.now)) }
+{
+    if text.len() <= BLOCK_BYTES || workers.number() == 1 {
+        return make_here(alloc, steps, text);
+    }
+    let Ok(spans) = cut_blocks(alloc, text, BLOCK_BYTES) else {
+        return Err(RunFault::Memory);
+    };
+    let Ok(source) = list_source(alloc, spans) else {
+        return Err(RunFault::Memory);
+    };
+    let query = ordered_by(alloc, workers)?;
+    let make = MakeBlock { steps, text };
+    let (blocks, _) = to_vec_mapped(rt, alloc, &query, source, &MapEach { make })?;
+    Ok(blocks)
+}
+
+/// The same on the caller's thread, in one block.
+fn make_here(alloc: Global, steps: &[LineStep], text: &[u8]) -> Result<Vec<Block>, RunFault>
+    requires whole { is_whole text.now ≡ true }
+    requires alone { are_alone steps.now ≡ true }
+    ensures bytes { IfOk result (λ blocks. flat_map (λ b. b) blocks.items ≡ answer_text steps.now text.now) }
+    ensures lines { IfOk result (λ blocks. flat_map lines_of blocks.items ≡ answer steps.now (lines_of text.now)) }
+{
+    let mut bytes = Vec::new(alloc);
+    let mut blocks = Vec::new(alloc);
+    let Ok(()) = make_lines(alloc, steps, text, &mut bytes) else {
+        return Err(RunFault::Memory);
+    };
+    match blocks.push(Block { bytes }) {
+        Ok(()) => Ok(blocks),
+        Err(_) => Err(RunFault::Memory),
+    }
+}
+
+/// A query without a step, which keeps the order of its source, by so many workers.
+fn ordered_by(alloc: Global, workers: Degree) -> Result<Query<Same<Span>>, RunFault>
+    ensures { IfOk result (λ query. (query.ordered ≡ true) × (query.ops ≡ [])) }
+{
+    let Ok(query) = Query::new(alloc).as_ordered() else {
+        return Err(RunFault::Memory);
+    };
+    match query.with_degree(workers.number()) {
+        Ok(query) => Ok(query),
+        Err(_) => Err(RunFault::Memory),
+    }
+}

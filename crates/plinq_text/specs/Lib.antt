@@ -1,0 +1,5 @@
+pub mod Fields
+pub mod Lines
+pub mod inner
+pub mod LineRows
+pub mod Steps

@@ -1,0 +1,134 @@
+-- What the steps of a query make of lines.
+use Rattle.std.specs.Prelude.{ℕ, zero, suc, ◌-◌, ◌==◌, nat_eq, ◌||◌, ◌&&◌, Bool, true, false, not, if◌then◌else◌, List, [], ◌∷◌, ◌++◌, take}
+use Rattle.std.specs.Prelude.{drop, map, filter, Option, Some, None, is_some, option_map, option_and_then, filter_map}
+use Rattle.std.specs.List.{starts_with, ends_with, prefix_len, take_while}
+use Rattle.std.specs.Str.{bytes_eq}
+use Rattle.memchr.specs.Find.{first_of, matches}
+use Rattle.plinq_text.specs.declared.line_step.LineStep.{LineStep}
+use Rattle.plinq_text.specs.declared.line_step.LineStep.TheVariants.{Filter, Select, Take, Skip, TakeWhile, SkipWhile}
+use Rattle.plinq_text.specs.declared.line_test.LineTest.{LineTest}
+use Rattle.plinq_text.specs.declared.line_test.TestKind.{TestKind}
+use Rattle.plinq_text.specs.declared.line_test.TestKind.TheVariants.{Contains, StartsWith, EndsWith, Is}
+use Rattle.plinq_text.specs.Fields.{field_of}
+use Rattle.plinq_text.specs.Lines.{Line, lines_of, written}
+
+-- whether these bytes stand somewhere in a text
+abbrev pub contains : List ℕ → List ℕ → Bool
+contains bytes text = is_some (first_of (matches text bytes 0))
+
+-- whether a text compares so with these bytes
+abbrev pub compares : TestKind → List ℕ → List ℕ → Bool
+compares Contains bytes text = contains bytes text
+compares StartsWith bytes text = starts_with nat_eq text bytes
+compares EndsWith bytes text = ends_with nat_eq text bytes
+compares Is bytes text = bytes_eq text bytes
+
+-- whether a text passes a test
+abbrev pub passes : LineTest → List ℕ → Bool
+passes t text = if t.negated then not (compares t.kind t.bytes.items text) else compares t.kind t.bytes.items text
+
+-- a line with another text
+abbrev pub with_text : Line → List ℕ → Line
+with_text l text = record { text = text; end = l.end }
+
+-- what a step makes of lines
+abbrev pub apply : LineStep → List Line → List Line
+apply (Filter t) ls = filter (λ l. passes t l.text) ls
+apply (Select f) ls = map (λ l. with_text l (field_of f l.text)) ls
+apply (Take n) ls = take n ls
+apply (Skip n) ls = drop n ls
+apply (TakeWhile t) ls = take_while (λ l. passes t l.text) ls
+apply (SkipWhile t) ls = drop (prefix_len (λ l. passes t l.text) ls) ls
+
+-- what steps make of lines, one after another
+unfoldable pub answer : List LineStep → List Line → List Line
+answer [] ls = ls
+answer (s ∷ ss) ls = answer ss (apply s ls)
+
+-- what is written of a text
+abbrev pub answer_text : List LineStep → List ℕ → List ℕ
+answer_text ss text = written (answer ss (lines_of text))
+
+-- what a step makes of the text of one line, if the line passes
+abbrev pub does : LineStep → List ℕ → Option (List ℕ)
+does (Filter t) text = if passes t text then Some text else None
+does (Select f) text = Some (field_of f text)
+does (Take zero) text = None
+does (Take (suc n)) text = Some text
+does (Skip zero) text = Some text
+does (Skip (suc n)) text = None
+does (TakeWhile t) text = if passes t text then Some text else None
+does (SkipWhile t) text = if passes t text then None else Some text
+
+-- what is left of a step once a line of this text came to it
+abbrev pub after_one : LineStep → List ℕ → LineStep
+after_one (Filter t) text = Filter t
+after_one (Select f) text = Select f
+after_one (Take n) text = Take (n - 1)
+after_one (Skip n) text = Skip (n - 1)
+after_one (TakeWhile t) text = if passes t text then TakeWhile t else Take 0
+after_one (SkipWhile t) text = if passes t text then SkipWhile t else Skip 0
+
+-- what a row of steps makes of the text of one line, if the line passes
+unfoldable pub row_does : List LineStep → List ℕ → Option (List ℕ)
+row_does [] text = Some text
+row_does (s ∷ ss) text = option_and_then (row_does ss) (does s text)
+
+-- what is left of a row of steps once a line came to it
+abbrev pub later : List LineStep → (List ℕ → List LineStep) → Option (List ℕ) → List LineStep
+later ss after None = ss
+later ss after (Some text) = after text
+
+unfoldable pub row_after : List LineStep → List ℕ → List LineStep
+row_after [] text = []
+row_after (s ∷ ss) text = after_one s text ∷ later ss (row_after ss) (does s text)
+
+-- what is left of a row of steps after lines
+unfoldable pub left : List LineStep → List Line → List LineStep
+left ss [] = ss
+left ss (l ∷ ls) = left (row_after ss l.text) ls
+
+-- what becomes of a line whose text becomes this, if anything
+abbrev pub made_line : (List ℕ → Option (List ℕ)) → Line → Option Line
+made_line f l = option_map (with_text l) (f l.text)
+
+-- what becomes of lines of which each is looked at alone
+abbrev pub made_lines : (List ℕ → Option (List ℕ)) → List Line → List Line
+made_lines f ls = filter_map (made_line f) ls
+
+-- what is written of a text whose lines come to each of the steps as it is
+abbrev pub made_text : List LineStep → List ℕ → List ℕ
+made_text ss text = written (made_lines (row_does ss) (lines_of text))
+
+-- whether a step looks at each line alone
+abbrev pub is_alone : LineStep → Bool
+is_alone (Filter t) = true
+is_alone (Select f) = true
+is_alone (Take n) = false
+is_alone (Skip n) = n == 0
+is_alone (TakeWhile t) = false
+is_alone (SkipWhile t) = false
+
+-- whether each of these steps does
+abbrev pub are_alone : List LineStep → Bool
+are_alone [] = true
+are_alone (s ∷ ss) = is_alone s && are_alone ss
+
+-- whether a step is a Take that has nothing left to take
+abbrev pub takes_none : LineStep → Bool
+takes_none (Take n) = n == 0
+takes_none (Filter t) = false
+takes_none (Select f) = false
+takes_none (Skip n) = false
+takes_none (TakeWhile t) = false
+takes_none (SkipWhile t) = false
+
+-- whether no line more can come out of these steps
+abbrev pub is_over : List LineStep → Bool
+is_over [] = false
+is_over (s ∷ ss) = takes_none s || is_over ss
+
+-- a line's text and what ends it, if there is a text
+abbrev pub bytes_of : Option (List ℕ) → List ℕ → List ℕ
+bytes_of None end = []
+bytes_of (Some text) end = text ++ end

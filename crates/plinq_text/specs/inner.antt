@@ -1,0 +1,2 @@
+-- Words that no public contract reaches: private contracts and proofs cite them.
+pub mod Ready
