@@ -21,12 +21,18 @@ _plinq() {
         --cancel-after) words='' ;;
         *)
             if [ "$COMP_CWORD" = 1 ]; then
-                words='run seq plan parts history --help --version'
+                words='run seq plan parts history lines --help --version'
             else
                 words='--workers --merge --help'
                 case ${COMP_WORDS[1]} in
                     run) words="$words --plain --cancel-after" ;;
                     seq) words="$words --plain" ;;
+                    # (its other words are a query and files)
+                    lines)
+                        words='--workers --help'
+                        [[ $word == -* ]] || compopt -o default
+                        [[ $word == -* ]] || words=
+                        ;;
                 esac
             fi
             ;;

@@ -9,12 +9,16 @@ import re
 
 from support.program import ROOT, Tests
 
-# what is added, and a neighbour's names
+# `plinq lines` has steps of its own, some of which have an operator's name.
+OF_LINES = r"crates/plinq_text"
+OF_DOCUMENTS = rf"(?!{OF_LINES})"
+# what is added, a neighbour's names, and where these are looked for
 NEIGHBOURS = (
-    ("An operator", r"SkipWhile|SkippingWhile|skip_while|skipped_while"),
-    ("A formula", r"UpTo|up_to(?=\")"),
-    ("An aggregate", r"Min|min(?=\")"),
-    ("An option of the command line", r"cancel_after"),
+    ("An operator", r"SkipWhile|SkippingWhile|skip_while|skipped_while", OF_DOCUMENTS),
+    ("A formula", r"UpTo|up_to(?=\")", OF_DOCUMENTS),
+    ("An aggregate", r"Min|min(?=\")", OF_DOCUMENTS),
+    ("An option of the command line", r"cancel_after", OF_DOCUMENTS),
+    ("A step of lines", r"SkipWhile|skip_while", OF_LINES),
 )
 
 # rows are worked examples, a lib lists what its crate has, and laws retell what is listed
@@ -55,8 +59,8 @@ def main():
     with open(os.path.join(ROOT, "docs", "CHANGING.md"), encoding="utf-8") as file:
         page = file.read()
     texts = {it: code(it) for it in files()}
-    for what, names in NEIGHBOURS:
-        named = {it for it, text in texts.items() if re.search(rf"\b(?:{names})\b", text) and not re.search(APART, f"/{it}")}
+    for what, names, place in NEIGHBOURS:
+        named = {it for it, text in texts.items() if re.match(place, it) and re.search(rf"\b(?:{names})\b", text) and not re.search(APART, f"/{it}")}
         missing = sorted(named - listed(page, what))
         tests.check(f"{what}: each of {len(named)} files that know its neighbour is listed", len(named) > 3 and not missing, missing)
         gone = sorted(it for it in listed(page, what) if not os.path.exists(os.path.join(ROOT, it)))

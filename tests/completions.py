@@ -45,13 +45,15 @@ COMPLETED = [
     ("plinq run < document.json --merge n\t", "got: run --merge not\nthe document"),
     ("plinq run <document.json --merge=n\t", "got: run --merge=not\nthe document"),
     ("plinq run > /dev/null < ../here/docu\t", ""),
-    # No file is an argument.
+    # Of lines alone a file is an argument, after its query.
+    ("plinq lines take docu\t", "got: lines take document.json"),
+    ("plinq lines --workers a\t", "got: lines --workers auto"),
     ("plinq run docu\t", "got: run docu"),
     ("plinq run --workers docu\t", "got: run --workers docu"),
 ]
 # What is typed before a TAB (in bash two), the words that are shown beside one another, and those that aren't.
 SHOWN = [
-    ("plinq ", "run seq plan parts history", "--merge document.json"),
+    ("plinq ", "run seq plan parts history lines", "--merge document.json"),
     ("plinq run --merge ", "not auto full default", "--workers document.json"),
     ("plinq run --merge=", "not auto full default", "--workers document.json"),
     ("plinq run --", "--workers --merge --plain --cancel-after --help", "document.json"),

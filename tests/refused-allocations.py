@@ -4,7 +4,7 @@
     python3 tests/refused-allocations.py
 
 Each run must end as it does with ample memory, or with status 5, the one line `plinq: out of memory` on standard error (or
-`plinq: no thread`, of `run` alone, which starts threads), and a beginning of the right output. A few lines of C, loaded before
+`plinq: no thread`, of `run` and `lines` alone, which start threads), and a beginning of the right output. A few lines of C, loaded before
 the C library, refuse the allocations.
 """
 import json
@@ -59,6 +59,10 @@ REFUSED = [
 # C library does without one allocation. The text has an escape, so that its bytes are gathered in a list that grows.
 WRONG_AT_ITS_END = document({"list": list(range(9))}, x=[1]), document({"text": "1\n2 3 " * 20}, x=[1])
 DONE_WITHOUT = 1
+# Lines in one block, and in three, of which each is longer than a block has to be.
+FEW_LINES = b"a x\nb\nc x y\n"
+MANY_LINES = b"".join(b"%d x y\n" % it * 30 for it in range(3_000))
+OF_LINES = ("filter contains x | select field 2", 'skip 1 | filter not is "b"', "take 2", "take_while contains x")
 CASES = (
     [(words, it) for it in ANSWERED for words in (["run", "--workers", "2", "--merge", "not"], ["run", "--workers", "1"], ["run", "--workers", "8"], ["seq"], ["plan", "--workers", "2"], ["parts"], ["history", "--workers", "2"])]
     + [(["run", "--workers", workers, "--merge", "not"], SEVENTEEN) for workers in ("1", "2")]
@@ -68,6 +72,9 @@ CASES = (
     + [(["run", "--workers", workers, "--merge", "not", "--cancel-after", it], ANSWERED[0]) for workers in ("1", "2", "8") for it in ("1", "9")]
     # (of so long a range the close may not be forgotten that finds no room for its record: it is tried again)
     + [(["run", "--workers", "1", "--merge", "not"], document({"range": [0, 2**40]}, ["take", it], growth=[1, 1, 1])) for it in (4, 8)]
+    + [(["lines", "--workers", workers, query], FEW_LINES) for workers in ("1", "2") for query in OF_LINES]
+    + [(["lines", "--workers", workers, OF_LINES[0]], MANY_LINES) for workers in ("1", "2")]
+    + [(["lines", "find"], FEW_LINES), (["lines"], FEW_LINES), (["lines", "--help"], b"")]
     + [(["run"], it) for it in REFUSED]
     + [(["seq"], it) for it in WRONG_AT_ITS_END]
     + [(words, ANSWERED[0]) for words in ([], ["walk"], ["run", "--workers", "0"], ["seq", "--merge", "some"], ["plan", "x"])]
@@ -88,7 +95,7 @@ def refusing(words, given, shim, which, at):
 
 def problem(words, seen, right):
     """What is wrong with how a run ended that met a refusal, if anything is."""
-    lines = (OUT_OF_MEMORY, NO_THREAD) if words[:1] == ["run"] else (OUT_OF_MEMORY,)
+    lines = (OUT_OF_MEMORY, NO_THREAD) if words[:1] in (["run"], ["lines"]) else (OUT_OF_MEMORY,)
     if seen == right:
         return None
     if seen.status != 5 or seen.errors not in lines:
@@ -96,7 +103,7 @@ def problem(words, seen, right):
     if not right.output.startswith(seen.output):
         return f"what was written is no beginning of the right output ({right}): {seen}"
     # (`run` and `seq` write whole lines; help may break off anywhere)
-    if words[:1] in (["run"], ["seq"]) and "--help" not in words and seen.output[-1:] not in (b"", b"\n"):
+    if words[:1] in (["run"], ["seq"], ["lines"]) and "--help" not in words and seen.output[-1:] not in (b"", b"\n"):
         return f"a line isn't whole: {seen}"
     return None
 

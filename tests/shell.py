@@ -80,7 +80,13 @@ def main():
     for name in ("plinq.1", "plinq-check.1", "plinq-explain.1"):
         tests.check(f"{name} has no fault", mandoc(f"{SHARE}/{name}") == "", mandoc(f"{SHARE}/{name}"))
 
-    tests.check("bash completes the commands", completed("plinq", "") == [*commands, "--help", "--version"], completed("plinq", ""))
+    # (the words of `lines` are its own, and so are its help and its section)
+    about_lines = run(["lines", "--help"]).output.decode()
+    every = commands | {"lines": about_lines.partition("\n")[0]}
+    for step, about in re.findall(r"^  (filter|select|take|skip|take_while|skip_while) .*?   (.*)$", about_lines, re.M):
+        tests.check(f"the man page has the step {step} of lines", f"{about}\n" in sections["LINES"] and f"\\fB{step}" in sections["LINES"], sections["LINES"])
+    tests.check("bash completes the commands", completed("plinq", "") == [*every, "--help", "--version"], completed("plinq", ""))
+    tests.check("bash completes the options of lines", completed("plinq", "lines", "--") == ["--workers", "--help"], completed("plinq", "lines", "--"))
     tests.check("bash completes the options", set(completed("plinq", "run", "--")) == set(options), completed("plinq", "run", "--"))
     tests.check("bash completes an option that was begun", completed("plinq", "seq", "--m") == ["--merge"], completed("plinq", "seq", "--m"))
     tests.check("bash completes the words of --merge", completed("plinq", "run", "--merge", "") == merge_words)
@@ -90,13 +96,13 @@ def main():
     tests.check("bash completes no plain plan", "--plain" not in completed("plinq", "plan", "--"), completed("plinq", "plan", "--"))
 
     fish = files["plinq.fish"]
-    tests.check("fish has the commands", dict(re.findall(r"use_subcommand -a (\w+) -d '(.*)'", fish)) == commands, fish)
+    tests.check("fish has the commands", dict(re.findall(r"use_subcommand -a (\w+) -d '(.*)'", fish)) == every, fish)
     tests.check("fish has the options", {f"--{it}" for it in re.findall(r"-l ([\w-]+)", fish)} == set(all_options), fish)
     by_word = dict(re.findall(r"-l merge -x -a (\w+) -d '(.*)'", fish))
     tests.check("fish has the words of --merge", list(by_word) == merge_words, fish)
     tests.check("and says what each is for, as help does", all(re.search(rf"^  {it} +{re.escape(about)}$", text, re.M) for it, about in by_word.items()), by_word)
     zsh = files["_plinq"]
-    tests.check("zsh has the commands", dict(re.findall(r'(\w+)\\:"(.*?)"', zsh)) == commands, zsh)
+    tests.check("zsh has the commands", dict(re.findall(r'(\w+)\\:"(.*?)"', zsh)) == every, zsh)
     tests.check("zsh has the options", set(re.findall(r"--\w[\w-]*(?=[=}']?[\[}])", zsh)) == set(all_options), zsh)
     tests.check("zsh has the words of --merge", re.findall(r"OPTION:\((.*?)\)", zsh) == [" ".join(merge_words)], zsh)
     tests.end()

@@ -51,7 +51,7 @@ REFUSED = {
     "run --merge some": "error: invalid value 'some' for '--merge <OPTION>'\n  [possible values: not, auto, full, default]\n" + MORE,
 }
 
-ABOUT = ("run", "seq", "plan", "parts", "history")
+ABOUT = ("run", "seq", "plan", "parts", "history", "lines")
 
 
 def help_of(name):

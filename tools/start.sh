@@ -26,9 +26,11 @@ start_program() {
     exec "$program" "$@"
 }
 
-# The last word or number that the words have for `--workers`, and whether one of them is `auto`.
+# The last word or number that the words have for `--workers`, and whether one of them is `auto`. Without it there are four, and
+# for lines as many as cores.
 workers_of() {
     workers=4 before= asks_for_cores=no
+    [ "${1-}" != lines ] || workers=auto
     for word in "$@"; do
         case $before:$word in
             --workers:*) workers=$word ;;

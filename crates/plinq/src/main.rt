@@ -1,7 +1,10 @@
-//! `plinq`: answers a PLINQ query over a JSON document.
+//! `plinq`: answers a PLINQ query over a JSON document, or a query over the lines of a text.
 #![tactic(auto)]
 
+ghost use Rattle.std.specs.Prelude.{◌≡◌, ◌≤◌, true, length};
+
 use plinq_cli::{WithCause, perform};
+use plinq_text_cli::perform_lines;
 use std::env::{Env, FillError};
 use std::io::{BufWriter, ErrorKind};
 use std::process::ExitCode;
@@ -23,13 +26,27 @@ fn main(rt: HostRuntime) -> ExitCode {
         Err(_) => return ExitCode::from(refuse_for_memory(&rt)),
     };
     let mut input = WithCause::new(rt.stdin());
-    let explains = is_set(&rt, EXPLAIN);
     let mut err = rt.stderr();
-    let status = perform(&rt, words, explains, &mut input, &mut out, &mut err);
+    let status = if asks_for_lines(&words) {
+        perform_lines(&rt, &words[1..], &mut input, &mut out, &mut err)
+    } else {
+        let explains = is_set(&rt, EXPLAIN);
+        perform(&rt, words, explains, &mut input, &mut out, &mut err)
+    };
     // What it still holds is what a failing write kept back. Dropped, it would be written after the failure's line.
     let WithCause { inner, .. } = out;
     let (_stdout, _unwritten) = inner.into_parts();
     ExitCode::from(status)
+}
+
+/// Whether the command is `lines`, whose words are its own.
+fn asks_for_lines(words: &[String]) -> bool
+    ensures { result ≡ true → 2 ≤ length words.now }
+{
+    match words {
+        [_, command, ..] => command.as_str() == "lines",
+        _ => false,
+    }
 }
 
 fn words_of(rt: &HostRuntime) -> io::Result<Vec<String>> {

@@ -31,7 +31,8 @@ static AUTO_WORDS: [&str; 1] = ["auto"];
 
 /// What stands at the end of the program's help.
 const AFTER_HELP: &str =
-    r#"Each command takes --workers with a number from 1 to 64 or auto, and --merge with one of these words:
+    r#"plinq lines QUERY [FILE..] answers a query over the lines of a text, and plinq lines --help says how. The commands above read a
+document: each takes --workers with a number from 1 to 64 or auto, and --merge with one of these words:
   not      a line for each element
   auto     lines of 16 elements
   full     all elements on one line, if the query succeeds

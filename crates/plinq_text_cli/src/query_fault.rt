@@ -1,0 +1,55 @@
+use std::alloc::{AllocError, AllocFailed};
+use thiserror::Error;
+
+/// Why the words of a query are refused. Steps are counted from 1.
+#[derive(Clone, Copy, Debug, PartialEq, Eq, Error)]
+pub enum QueryFault {
+    /// Memory ran out.
+    #[error("out of memory")]
+    Memory,
+    /// A text has no end.
+    #[error("a text has no closing quote")]
+    OpenText,
+    /// A backslash in a text stands before something else than it may.
+    #[error("a backslash in a text stands before \", \\, t or r")]
+    Escape,
+    /// A quote stands in the midst of a word.
+    #[error("a quote stands within a word: a text in quotes is a word of its own")]
+    QuoteInWord,
+    /// Nothing stands between two bars, or before the first or after the last.
+    #[error("step {0} is empty")]
+    NoStep(usize),
+    /// A step has another name.
+    #[error("step {0} is none of filter, select, take, skip, take_while and skip_while")]
+    UnknownStep(usize),
+    /// A filter, take_while or skip_while has no test.
+    #[error("step {0} wants contains, starts_with, ends_with or is, with or without not before it")]
+    NoTest(usize),
+    /// A test has no text.
+    #[error("step {0}: a text is missing, as in contains \"disk full\"")]
+    NoText(usize),
+    /// A select has no field.
+    #[error("step {0}: select wants field and a number from 1 on, as field 2")]
+    NoField(usize),
+    /// A separator isn't one byte.
+    #[error("step {0}: by wants a text of one byte, as by \",\" or by \"\\t\"")]
+    Separator(usize),
+    /// A take or a skip has no number.
+    #[error("step {0}: take and skip want a number of lines")]
+    NoNumber(usize),
+    /// Something follows a whole step.
+    #[error("step {0} goes on after its end: a bar parts two steps")]
+    TooLong(usize),
+}
+
+impl From<AllocError> for QueryFault {
+    fn from(_: AllocError) -> QueryFault {
+        QueryFault::Memory
+    }
+}
+
+impl<T: Drop> From<AllocFailed<T>> for QueryFault {
+    fn from(_: AllocFailed<T>) -> QueryFault {
+        QueryFault::Memory
+    }
+}

@@ -1,0 +1,340 @@
+#!/usr/bin/env python3
+"""`plinq lines` beside a plain model, and beside grep, cut, head and tail where these do the same.
+
+    python3 tests/lines.py
+
+Random texts and queries by 1, 2, 4 and 64 workers, from files, from standard input, and from a pipe that is written in pieces of
+random sizes. Lines that end at, before and after the end of a block or of a read; bytes that are no characters; carriage returns;
+several files; a growing file; readers that leave, a full disk, memory that is short; mistakes in words and queries.
+"""
+import os
+import random
+import resource
+import signal
+import subprocess
+import tempfile
+import threading
+
+from support.program import HANGS, PLINQ, ROOT, Outcome, Tests, build, run
+
+# How many bytes a block of lines has at least, and a read at most (crates/plinq_rounds).
+BLOCK, READ = 262_144, 4_194_304
+WORKERS = ("1", "2", "4", "64", "auto")
+BLANKS = b" \t\r"
+TESTS = {
+    "contains": lambda text, bytes_: bytes_ in text,
+    "starts_with": lambda text, bytes_: text.startswith(bytes_),
+    "ends_with": lambda text, bytes_: text.endswith(bytes_),
+    "is": lambda text, bytes_: text == bytes_,
+}
+
+
+def lines_of(text):
+    """The lines of a text, each with the line feed that ends it."""
+    *ended, last = text.split(b"\n")
+    return [line + b"\n" for line in ended] + ([last] if last else [])
+
+
+def words_between_blanks(text):
+    word, words = b"", []
+    for byte in text:
+        if byte in BLANKS:
+            words += [word] if word else []
+            word = b""
+        else:
+            word += bytes([byte])
+    return words + ([word] if word else [])
+
+
+def field_of(text, number, separator):
+    fields = words_between_blanks(text) if separator is None else text.split(separator)
+    return fields[number - 1] if number <= len(fields) else b""
+
+
+def answer(steps, lines):
+    """What the steps make of lines, step by step over the whole list."""
+    for name, *values in steps:
+        texts = [(line.rstrip(b"\n"), line[len(line.rstrip(b"\n")) :]) for line in lines]
+        if name == "filter":
+            negated, kind, bytes_ = values
+            lines = [text + end for text, end in texts if TESTS[kind](text, bytes_) != negated]
+        elif name == "select":
+            lines = [field_of(text, *values) + end for text, end in texts]
+        elif name in ("take_while", "skip_while"):
+            negated, kind, bytes_ = values
+            count = next((at for at, (text, _) in enumerate(texts) if TESTS[kind](text, bytes_) == negated), len(lines))
+            lines = lines[:count] if name == "take_while" else lines[count:]
+        elif name == "take":
+            lines = lines[: values[0]]
+        else:
+            lines = lines[values[0] :]
+    return b"".join(lines)
+
+
+def quoted(bytes_):
+    escapes = {ord('"'): '\\"', ord("\\"): "\\\\", ord("\t"): "\\t", ord("\r"): "\\r"}
+    return '"' + "".join(escapes.get(byte, chr(byte)) for byte in bytes_) + '"'
+
+
+def words_of(steps):
+    said = []
+    for name, *values in steps:
+        if name in ("filter", "take_while", "skip_while"):
+            negated, kind, bytes_ = values
+            said.append(f"{name} {'not ' * negated}{kind} {quoted(bytes_)}")
+        elif name == "select":
+            number, separator = values
+            said.append(f"select field {number}" + ("" if separator is None else f" by {quoted(separator)}"))
+        else:
+            said.append(f"{name} {values[0]}")
+    return " | ".join(said)
+
+
+def some_step(by):
+    name = by.choice(("filter", "filter", "select", "take", "skip", "take_while", "skip_while"))
+    if name in ("filter", "take_while", "skip_while"):
+        return name, by.random() < 0.3, by.choice(list(TESTS)), by.choice((b"", b"a", b"b c", b"ab", b"c", b"\t", b'"', b"\\", b"a\r"))
+    if name == "select":
+        return name, by.randint(1, 4), by.choice((None, None, b"a", b"\t", b" "))
+    return name, by.choice((0, 1, 2, 5, 40, 2_000))
+
+
+def some_text(by, size):
+    """A text of about this many bytes: short and long lines, of few bytes that the steps speak of and of any."""
+    parts, left = [], size
+    while left > 0:
+        long = by.choice((0, 1, 3, 8, 30, 30, 200, by.choice((200, 60_000))))
+        alphabet = by.choice((b"abc \t\r\"\\", b"abc \t\r\"\\", bytes(it for it in range(256) if it != 10)))
+        line = bytes(by.choice(alphabet) for _ in range(min(long, 400))) * max(1, long // 400)
+        parts.append(line + b"\n")
+        left -= len(line) + 1
+    text = b"".join(parts)
+    return text[:-1] if by.random() < 0.3 else text
+
+
+def lines(query, given=b"", words=(), **how):
+    return run(["lines", *words, query], given, **how)
+
+
+def by_random(tests):
+    by = random.Random(38)
+    for turn in range(220):
+        text = some_text(by, by.choice((0, 10, 300, 300, 5_000, 5_000, 700_000 if turn % 12 == 0 else 2_000)))
+        steps = [some_step(by) for _ in range(by.randint(1, 4))]
+        wanted = Outcome(0, answer(steps, lines_of(text)), b"")
+        seen = lines(words_of(steps), text, ["--workers", by.choice(WORKERS)])
+        tests.check(f"random text {turn}: {words_of(steps)}", seen == wanted, f"{seen}; wanted {wanted}")
+
+
+def at_edges(tests):
+    """Lines that end at, before and after the end of a block and of a read, and lines longer than both."""
+    steps = [("filter", False, "contains", b"x")]
+    for size in (BLOCK, 2 * BLOCK, READ, 2 * READ):
+        for off in (-2, -1, 0, 1, 2):
+            first = b"x" * (size + off - 1) + b"\n"
+            text = first + b"y\nxy\n" + b"z" * 300_000 + b"\nlast x"
+            for workers in ("1", "4"):
+                seen = lines(words_of(steps), text, ["--workers", workers])
+                tests.check(f"a line of {size + off} bytes by {workers}", seen == Outcome(0, answer(steps, lines_of(text)), b""), str(seen)[:200])
+    text = b"".join(b"%d x\n" % it if it % 3 else b"%d\n" % it for it in range(1_500_000))
+    for given in (steps, [("skip_while", True, "contains", b"700000 x"), ("take_while", True, "is", b"1400000 x")], [("skip", 700_001), ("filter", False, "contains", b"x"), ("take", 400_000)], [("select", 1, None), ("skip", 1_499_999)]):
+        for workers in ("1", "2", "64"):
+            seen = lines(words_of(given), text, ["--workers", workers])
+            tests.check(f"{words_of(given)} of 14 MB by {workers}", seen == Outcome(0, answer(given, lines_of(text)), b""), str(seen)[:200])
+
+
+def by_pieces(tests):
+    """A pipe that is written in pieces of random sizes."""
+    by = random.Random(83)
+    for turn in range(12):
+        text = some_text(by, 60_000)
+        steps = [some_step(by) for _ in range(2)]
+        child = subprocess.Popen([PLINQ, "lines", words_of(steps)], stdin=subprocess.PIPE, stdout=subprocess.PIPE, stderr=subprocess.PIPE)
+
+        def write():
+            at = 0
+            try:
+                while at < len(text):
+                    count = by.choice((1, 2, 100, 4_096, 20_000))
+                    child.stdin.write(text[at : at + count])
+                    child.stdin.flush()
+                    at += count
+                child.stdin.close()
+            except BrokenPipeError:
+                pass
+
+        writer = threading.Thread(target=write)
+        writer.start()
+        output, errors = child.stdout.read(), child.stderr.read()
+        writer.join()
+        seen = Outcome(child.wait(timeout=HANGS), output, errors)
+        tests.check(f"by pieces {turn}: {words_of(steps)}", seen == Outcome(0, answer(steps, lines_of(text)), b""), str(seen))
+
+
+def at_once(tests):
+    """A line that stands in a pipe is answered, though more may come."""
+    child = subprocess.Popen([PLINQ, "lines", "filter contains x"], stdin=subprocess.PIPE, stdout=subprocess.PIPE)
+    for line in (b"a x\n", b"x b\n"):
+        child.stdin.write(b"no\n" + line)
+        child.stdin.flush()
+        tests.check("a line is answered at once", child.stdout.readline() == line)
+    child.stdin.close()
+    tests.check("and the rest at the end", child.stdout.read() == b"" and child.wait(timeout=HANGS) == 0)
+    child.stdout.close()
+
+
+def take_ends(tests):
+    """Once a take has its lines the input is read no more, though it never ends."""
+    endless = subprocess.Popen(["yes", "a b"], stdout=subprocess.PIPE)
+    seen = run(["lines", "select field 2 | take 3"], stdin=endless.stdout)
+    endless.stdout.close()
+    tests.check("take of an endless input", seen == Outcome(0, b"b\nb\nb\n", b"") and endless.wait(timeout=HANGS) in (1, -signal.SIGPIPE), str(seen))
+    endless = subprocess.Popen(["yes", "a b"], stdout=subprocess.PIPE)
+    seen = run(["lines", "take_while not starts_with a"], stdin=endless.stdout)
+    endless.stdout.close()
+    tests.check("take_while of an endless input", seen == Outcome(0, b"", b"") and endless.wait(timeout=HANGS) in (1, -signal.SIGPIPE), str(seen))
+    tests.check("take 0 reads nothing", lines("take 0", b"a\n") == Outcome(0, b"", b""))
+
+
+def files(tests, folder):
+    def made(name, bytes_):
+        path = os.path.join(folder, name)
+        with open(path, "wb") as file:
+            file.write(bytes_)
+        return path
+
+    first, second, none = made("first", b"1 a\n2 b"), made("second", b"3 c\r\n4"), made("none", b"")
+    both = Outcome(0, b"1 a\n2 b\n3 c\r\n4", b"")
+    tests.check("two files", run(["lines", "skip 0", first, second]) == both)
+    tests.check("an empty file between", run(["lines", "skip 0", first, none, second, none]) == Outcome(0, both.output + b"\n", b""))
+    tests.check("counts go on", run(["lines", "skip 1 | take 2", first, second]) == Outcome(0, b"2 b\n3 c\r\n", b""))
+    tests.check("standard input among files", run(["lines", "skip 0", first, "-", second], b"0") == Outcome(0, b"1 a\n2 b\n0\n3 c\r\n4", b""))
+    tests.check("a file of a name with a blank", run(["lines", "take 1", made("a b", b"x\n")]) == Outcome(0, b"x\n", b""))
+    missing = os.path.join(folder, "missing")
+    seen = run(["lines", "skip 0", first, missing, second])
+    said = f"plinq: {missing}: No such file or directory (os error 2)\n".encode()
+    tests.check("a file that isn't there, after those before it", seen == Outcome(5, b"1 a\n2 b\n", said), str(seen))
+    tests.check("a folder", run(["lines", "skip 0", folder]) == Outcome(5, b"", f"plinq: {folder}: Is a directory (os error 21)\n".encode()))
+    tests.check("no input", run(["lines", "skip 0"], stdin=subprocess.DEVNULL) == Outcome(0, b"", b""))
+
+
+def mistakes(tests):
+    end = "\n\nFor more information, try '--help'.\n"
+    for query, said in (
+        ("", "step 1 is empty"),
+        ("take 1 |", "step 2 is empty"),
+        ("| take 1", "step 1 is empty"),
+        ("find x", "step 1 is none of filter, select, take, skip, take_while and skip_while"),
+        ('take 1 | "filter" is x', "step 2 is none of filter, select, take, skip, take_while and skip_while"),
+        ("filter", "step 1 wants contains, starts_with, ends_with or is, with or without not before it"),
+        ("filter not", "step 1 wants contains, starts_with, ends_with or is, with or without not before it"),
+        ("filter matches x", "step 1 wants contains, starts_with, ends_with or is, with or without not before it"),
+        ("take_while 3", "step 1 wants contains, starts_with, ends_with or is, with or without not before it"),
+        ("filter contains", 'step 1: a text is missing, as in contains "disk full"'),
+        ("select field", "step 1: select wants field and a number from 1 on, as field 2"),
+        ("select field 0", "step 1: select wants field and a number from 1 on, as field 2"),
+        ("select 2", "step 1: select wants field and a number from 1 on, as field 2"),
+        ('select field 2 by ", "', 'step 1: by wants a text of one byte, as by "," or by "\\t"'),
+        ("select field 2 by", 'step 1: by wants a text of one byte, as by "," or by "\\t"'),
+        ("select field 2 between x", "step 1 goes on after its end: a bar parts two steps"),
+        ("take", "step 1: take and skip want a number of lines"),
+        ("skip -1", "step 1: take and skip want a number of lines"),
+        ("take 18446744073709551616", "step 1: take and skip want a number of lines"),
+        ("take 1 2", "step 1 goes on after its end: a bar parts two steps"),
+        ('filter contains "x', "a text has no closing quote"),
+        ('filter contains "x\\', "a text has no closing quote"),
+        ('filter contains "\\x"', 'a backslash in a text stands before ", \\, t or r'),
+        ('filter contains a"b', "a quote stands within a word: a text in quotes is a word of its own"),
+    ):
+        seen = lines(query, b"a\n")
+        tests.check(f"the mistake in {query!r}", seen == Outcome(2, b"", f"error: {said}{end}".encode()), str(seen))
+    for words in (["lines"], ["lines", "--merge", "not", "take 1"], ["lines", "--workers", "0", "take 1"], ["lines", "--workers", "65", "take 1"], ["lines", "--workers", "x", "take 1"]):
+        seen = run(words)
+        tests.check(f"the words {words}", seen.status == 2 and seen.output == b"" and seen.errors.startswith(b"error: "), str(seen))
+    seen = run(["lines", "--help"])
+    tests.check("help", seen.status == 0 and b"plinq lines" in seen.output and seen.errors == b"", str(seen))
+
+
+def streams(tests, folder):
+    text = b"a x\n" * 300_000
+    with open("/dev/full", "wb") as full:
+        seen = lines("skip 1", text, stdout=full)
+    tests.check("a full disk", (seen.status, seen.errors) == (5, b"plinq: write failed: No space left on device (os error 28)\n"), seen.errors)
+    child = subprocess.Popen([PLINQ, "lines", "skip 1"], stdin=subprocess.PIPE, stdout=subprocess.PIPE, stderr=subprocess.PIPE)
+    child.stdout.close()
+    errors = feed(child, text)
+    tests.check("a reader that has gone", (child.wait(timeout=HANGS), errors) == (5, b""), errors)
+    seen = subprocess.run(["bash", "-c", "exec \"$0\" lines 'skip 1' <&-", PLINQ], capture_output=True, timeout=HANGS)
+    tests.check("a closed input", (seen.returncode, seen.stdout) == (5, b"") and seen.stderr.startswith(b"plinq: standard input: "), seen.stderr)
+    path = os.path.join(folder, "long")
+    with open(path, "wb") as file:
+        file.write(b"first\n" + b"x" * 60_000_000)
+    seen = run(["lines", "skip 0", path], env=os.environ | {"PLINQ_MEMORY": "30M"})
+    tests.check("a line longer than memory, after those before it", seen == Outcome(5, b"first\n", b"plinq: out of memory\n"), str(seen))
+    seen = run(["lines", "filter contains x | take 1", path], env=os.environ | {"PLINQ_MEMORY": "200M"})
+    tests.check("a line of 60 MB", seen.status == 0 and len(seen.output) == 60_000_000, str(seen)[:200])
+
+
+def feed(child, text):
+    try:
+        child.stdin.write(text)
+        child.stdin.close()
+    except BrokenPipeError:
+        pass
+    return child.stderr.read()
+
+
+def few_bytes(tests, folder):
+    """Memory doesn't grow with the input."""
+    path = os.path.join(folder, "many")
+    with open(path, "wb") as file:
+        for at in range(60):
+            file.write(b"".join(b"%d some words of a line\n" % it for it in range(at, at + 100_000)))
+    size = os.path.getsize(path)
+    before = resource.getrusage(resource.RUSAGE_CHILDREN).ru_maxrss
+    seen = run(["lines", "--workers", "4", "filter contains \"99999 \"", path], env=os.environ | {"PLINQ_MEMORY": "60M"})
+    tests.check(f"{size} bytes in 60 MB", seen.status == 0 and len(seen.output) > 0, f"{seen}, {before}")
+
+
+def beside_others(tests):
+    """What grep, cut, head and tail print of the files of this repository."""
+    with open(os.path.join(ROOT, "CHANGES.md"), "rb") as file:
+        text = file.read()
+    for query, words in (
+        ("filter contains plinq", ["grep", "-F", "plinq"]),
+        ("filter not contains plinq", ["grep", "-v", "-F", "plinq"]),
+        ("filter starts_with \"- \"", ["grep", "^- "]),
+        ("filter is \"\"", ["grep", "-x", ""]),
+        ("select field 2 by \"`\"", ["cut", "-d", "`", "-f", "2"]),
+        ("take 7", ["head", "-n", "7"]),
+        ("skip 7", ["tail", "-n", "+8"]),
+    ):
+        theirs = subprocess.run(words, input=text, capture_output=True, env=os.environ | {"LC_ALL": "C"}).stdout
+        # (cut prints a line without its separator whole, which is no field of it)
+        if words[0] == "cut":
+            theirs = b"".join(line if b"`" in whole else b"\n" for line, whole in zip(lines_of(theirs), lines_of(text)))
+            query = "filter contains \"`\" | " + query
+            theirs = b"".join(line for line, whole in zip(lines_of(theirs), lines_of(text)) if b"`" in whole)
+        seen = lines(query, text)
+        tests.check(f"{query} beside {words[0]}", seen == Outcome(0, theirs, b""), str(seen)[:200])
+
+
+def main():
+    build()
+    tests = Tests()
+    by_random(tests)
+    at_edges(tests)
+    by_pieces(tests)
+    at_once(tests)
+    take_ends(tests)
+    mistakes(tests)
+    beside_others(tests)
+    with tempfile.TemporaryDirectory() as folder:
+        files(tests, folder)
+        streams(tests, folder)
+        few_bytes(tests, folder)
+    tests.end()
+
+
+if __name__ == "__main__":
+    main()
