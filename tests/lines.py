@@ -5,7 +5,8 @@
 
 Random texts and queries by 1, 2, 4 and 64 workers, from files, from standard input, and from a pipe that is written in pieces of
 random sizes. Lines that end at, before and after the end of a block or of a read; bytes that are no characters; carriage returns;
-several files; a growing file; readers that leave, a full disk, memory that is short; mistakes in words and queries.
+several files; a line of 128 MB in linear time; readers that leave, a full disk, memory that is short; mistakes in words and
+queries.
 """
 import os
 import random
@@ -273,6 +274,10 @@ def streams(tests, folder):
     tests.check("a line longer than memory, after those before it", seen == Outcome(5, b"first\n", b"plinq: out of memory\n"), str(seen))
     seen = run(["lines", "filter contains x | take 1", path], env=os.environ | {"PLINQ_MEMORY": "200M"})
     tests.check("a line of 60 MB", seen.status == 0 and len(seen.output) == 60_000_000, str(seen)[:200])
+    # (Through a pipe it comes by 64 KiB. If each read cost what was read before, this would take 40 seconds of processor time.)
+    limited = ["bash", "-c", "ulimit -t 20; exec \"$0\" lines --workers 1 'filter not contains x'", PLINQ]
+    seen = subprocess.run(limited, input=b"x" * 128_000_000, capture_output=True, timeout=HANGS)
+    tests.check("a line of 128 MB in linear time", (seen.returncode, seen.stdout, seen.stderr) == (0, b"", b""), str(seen)[-200:])
 
 
 def feed(child, text):

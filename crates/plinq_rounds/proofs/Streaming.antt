@@ -38,6 +38,14 @@ two-texts ss a b whole =
     ∙ ap written (answer-append ss (lines_of a) (lines_of b))
     ∙ flat_map-append (λ (l : Line). l.text ++ l.end) (answer ss (lines_of a)) _
 
+-- after a failure that isn't one of the writer's all of a text is written
+pub ends-at : (fault : LinesFault) → (fault ≡ Write → ⊥) → (start now : Bytes) (text : List ℕ) → Appends start now text → EndsAt fault start now text
+ends-at Write other start now text p = absurd (other refl)
+ends-at Memory other start now text p = p
+ends-at Read other start now text p = p
+ends-at Thread other start now text p = p
+ends-at Incomplete other start now text p = p
+
 -- the reader's bytes, of which these were read
 its-bytes : (told left_told : Bytes) (read : List ℕ) → Consumes told left_told read → (more : List ℕ) × AreItsBytes told (read ++ more)
 its-bytes None left_told read is = ([], tt)
@@ -45,13 +53,10 @@ its-bytes (Some t) None read is = absurd is
 its-bytes (Some t) (Some l) read is = (l, is)
 
 -- a reader that is at its end gave all that it had
-all-read : (told left_told last : Bytes) (read piece : List ℕ) → Consumes told left_told read → Consumes left_told last piece → piece ≡ [] → IsAtEnd last
-    → AreItsBytes told read
-all-read None left_told last read piece is took none end = tt
-all-read (Some t) None last read piece is took none end = absurd is
-all-read (Some t) (Some l) None read piece is took none end = absurd took
-all-read (Some t) (Some l) (Some e) read piece is took none end =
-    is ∙ ap (λ x. read ++ x) (took ∙ ap (λ p. p ++ e) none ∙ end) ∙ append-nil read
+all-read : (told left_told : Bytes) (read : List ℕ) → Consumes told left_told read → IsAtEnd left_told → AreItsBytes told read
+all-read None left_told read is end = tt
+all-read (Some t) None read is end = absurd is
+all-read (Some t) (Some l) read is end = is ∙ ap (λ x. read ++ x) end ∙ append-nil read
 
 -- what is left of steps that are over, after whatever lines
 over-left : (steps : List LineStep) → is_over steps ≡ true → (ms ls : List Line) → answer (left steps ms) ls ≡ []
@@ -182,18 +187,17 @@ module _ {ss : List LineStep} {told left_told start now : Bytes} {rest : List �
       broke-off A s first later all.0 new fault (subst (AreItsBytes told) same all.1) (inl (whole-append s.done first s.whole whole)) broke
 
   -- all was read, and the last line is answered
-  pub streamed-ends : {A : Type 0} (s : Streamed ss told left_told start now rest steps) (last new : Bytes) (piece : List ℕ) (steps' : List LineStep)
-      (r : Result A LinesFault)
-      → Consumes left_told last piece → piece ≡ [] → IsAtEnd last → Passes steps (lines_of rest) now new r steps' → AnswersLines ss told start new r steps'
-  streamed-ends s last new piece steps' (Ok x) took none end p =
+  pub streamed-ends : {A : Type 0} (s : Streamed ss told left_told start now rest steps) (new : Bytes) (steps' : List LineStep) (r : Result A LinesFault)
+      → IsAtEnd left_told → Passes steps (lines_of rest) now new r steps' → AnswersLines ss told start new r steps'
+  streamed-ends s new steps' (Ok x) end p =
       let all : steps' ≡ left ss (lines_of (s.done ++ rest)) =
       p.1 ∙ ap (λ c. left c (lines_of rest)) s.steps_are ∙ sym (left-append ss (lines_of s.done) (lines_of rest))
       ∙ ap (left ss) (sym (lines-append s.done rest s.whole)) in (
         s.done ++ rest,
-        all-read told left_told last (s.done ++ rest) piece s.read took none end,
+        all-read told left_told (s.done ++ rest) s.read end,
         appends-as start new _ _ (more-answer s rest) (Appends-trans start now new _ _ s.out p.0),
         λ ls. ap (λ c. answer c ls) all,
       )
-  streamed-ends {A} s last new piece steps' (Err fault) took none end p =
-      let all = all-read told left_told last (s.done ++ rest) piece s.read took none end in
+  streamed-ends {A} s new steps' (Err fault) end p =
+      let all = all-read told left_told (s.done ++ rest) s.read end in
       broke-off A s rest [] [] new fault (subst (AreItsBytes told) (sym (append-nil (s.done ++ rest))) all) (inr refl) p

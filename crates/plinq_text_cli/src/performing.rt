@@ -6,7 +6,7 @@ use crate::query_fault::QueryFault;
 use crate::words::{Asked, read_words};
 use clap::error::ErrorKind;
 use plinq_cli::WithCause;
-use plinq_rounds::{LinesFault, answer_lines};
+use plinq_rounds::{LinesFault, ReadBuffer, answer_lines};
 use plinq_settings::Degree;
 use plinq_text::LineStep;
 use std::alloc::Global;
@@ -16,6 +16,16 @@ use std::sync::Wait;
 use std::thread::{Threads, available_parallelism};
 use std::time::Clock;
 use std::{fs, io};
+
+/// What the lines of each reader are answered with.
+#[derive(Drop)]
+struct Answering {
+    alloc: Global,
+    workers: Degree,
+    /// What is left of the steps after the readers before it.
+    steps: Vec<LineStep>,
+    buffer: ReadBuffer,
+}
 
 /// Does what `plinq lines` does: reads a query from the words, of which the first is `lines`, and the lines of files or of `input`.
 /// Writes the answer to `out` and what is wrong to `err`, and returns the exit status.
@@ -59,7 +69,7 @@ where
     E: Write,
     ensures { result ≤ 5 }
 {
-    let mut steps = match read_query(alloc, asked.query) {
+    let steps = match read_query(alloc, asked.query) {
         Ok(steps) => steps,
         Err(QueryFault::Memory) => return report(Err(LinesFault::Memory), "", None, None, err),
         Err(fault) => {
@@ -72,13 +82,18 @@ where
         Some(workers) => workers,
         None => as_many_as_cores(rt),
     };
-    let row = steps.as_mut_slice();
+    let mut answering = Answering {
+        alloc,
+        workers,
+        steps,
+        buffer: ReadBuffer::new(alloc),
+    };
     if asked.files.is_empty() {
-        return answer_named(rt, alloc, workers, row, "-", true, input, out, err);
+        return answer_named(rt, &mut answering, "-", true, input, out, err);
     }
     for (i, name) in asked.files.iter().enumerate() {
         let is_last = i + 1 == asked.files.len();
-        let status = answer_named(rt, alloc, workers, row, *name, is_last, input, out, err);
+        let status = answer_named(rt, &mut answering, *name, is_last, input, out, err);
         if status != 0 {
             return status;
         }
@@ -89,9 +104,7 @@ where
 /// Answers the lines of a file, or of `input` by the name of `-`.
 fn answer_named<R, I, W, E>(
     rt: &R,
-    alloc: Global,
-    workers: Degree,
-    row: &mut [LineStep],
+    answering: &mut Answering,
     name: &str,
     is_last: bool,
     input: &mut WithCause<I>,
@@ -106,13 +119,13 @@ where
     ensures { result ≤ 5 }
 {
     if name == "-" {
-        let outcome = answer_part(rt, alloc, workers, row, is_last, input, out);
+        let outcome = answer_part(rt, answering, is_last, input, out);
         return report(outcome, "standard input", input.cause(), out.cause(), err);
     }
     match fs::open(rt, name) {
         Ok(file) => {
             let mut file = WithCause::new(file);
-            let outcome = answer_part(rt, alloc, workers, row, is_last, &mut file, out);
+            let outcome = answer_part(rt, answering, is_last, &mut file, out);
             report(outcome, name, file.cause(), out.cause(), err)
         }
         Err(error) => report(Err(LinesFault::Read), name, Some(&error), None, err),
@@ -122,9 +135,7 @@ where
 /// Answers the lines of one reader, which others follow unless it is the last one.
 fn answer_part<R, I, W>(
     rt: &R,
-    alloc: Global,
-    workers: Degree,
-    row: &mut [LineStep],
+    answering: &mut Answering,
     is_last: bool,
     input: &mut I,
     out: &mut W,
@@ -134,10 +145,29 @@ where
     I: Read,
     W: Write,
 {
+    let steps = answering.steps.as_mut_slice();
+    let buffer = &mut answering.buffer;
     if is_last {
-        return answer_lines(rt, alloc, workers, row, input, out);
+        return answer_lines(
+            rt,
+            answering.alloc,
+            answering.workers,
+            steps,
+            buffer,
+            input,
+            out,
+        );
     }
-    answer_lines(rt, alloc, workers, row, &mut Ended::new(input), out)
+    let mut ended = Ended::new(input);
+    answer_lines(
+        rt,
+        answering.alloc,
+        answering.workers,
+        steps,
+        buffer,
+        &mut ended,
+        out,
+    )
 }
 
 /// The status of an outcome, and what is said of it.

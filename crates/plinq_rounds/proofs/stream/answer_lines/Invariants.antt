@@ -1,10 +1,6 @@
-use Rattle.std.proofs.Common.{◌<◌, length}
 use Rattle.plinq_rounds.proofs.Streaming.{Streamed}
 use Rattle.plinq_rounds.proofs.stream.answer_lines.Given as goal
 
 abbrev pub invariant-loop : goal.invariant-loop
-invariant-loop g l = record {
-  streamed : Streamed l.fn.steps (g.I.Read.remaining l.fn.reader) (g.I.Read.remaining l.reader) (g.W.Write.contents l.fn.out)
-      (g.W.Write.contents l.out) l.lines.items l.steps;
-  room : 0 < length l.piece.items;
-}
+invariant-loop g l =
+    Streamed l.fn.steps (g.I.Read.remaining l.fn.reader) (g.I.Read.remaining l.reader) (g.W.Write.contents l.fn.out) (g.W.Write.contents l.out) l.buffer l.steps

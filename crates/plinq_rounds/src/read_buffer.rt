@@ -1,0 +1,144 @@
+ghost use Rattle.std.specs.Prelude.{◌≡◌, ◌≢◌, ◌≤◌, ◌<◌, ◌+◌, ◌++◌, true, [], List, ℕ, IfOk, IfErr, length, take, drop, vec_len};
+ghost use Rattle.std.specs.Io.KnownBytes.{Consumes, IsAtEnd};
+ghost use Rattle.plinq_rounds.specs.declared.lines_fault.LinesFault.TheVariants.{Write};
+ghost use Rattle.plinq_text.specs.Lines.{is_whole};
+
+use crate::lines_fault::LinesFault;
+use memchr::memrchr;
+use std::alloc::Global;
+use std::io::Read;
+use std::marker::Model;
+
+/// How many bytes a buffer has room for at first.
+const FIRST_ROOM: usize = 4_194_304;
+
+/// What was read and isn't answered yet, and room for more.
+///
+/// One buffer serves any number of readers, one after another. It takes 4 MiB at its first read; a line that doesn't fit doubles
+/// it.
+#[derive(Drop)]
+pub struct ReadBuffer {
+    bytes: Vec<u8>,
+    // So many of them were read. The others are room.
+    count: usize,
+    ghost within: { count ≤ vec_len bytes },
+}
+
+impl Model for ReadBuffer {
+    ghost Value = { List ℕ };
+
+    ghost view = { λ b. take b.count b.bytes.items };
+}
+
+impl ReadBuffer {
+    /// A buffer that takes no memory yet.
+    pub fn new(alloc: Global) -> ReadBuffer
+        ensures { result ≡ [] }
+    {
+        ReadBuffer {
+            bytes: Vec::new(alloc),
+            count: 0,
+        }
+    }
+
+    /// Leaves out all that was read.
+    pub(crate) fn clear(&mut self)
+        ensures { self.new ≡ [] }
+    {
+        self.count = 0;
+    }
+
+    /// All that was read.
+    pub(crate) fn as_slice(&self) -> &[u8]
+        ensures { result.now ≡ self.now }
+    {
+        self.front(self.count)
+    }
+
+    /// The first bytes of what was read.
+    pub(crate) fn front(&self, count: usize) -> &[u8]
+        requires { count ≤ length self.now }
+        ensures { result.now ≡ take count self.now }
+    {
+        let (front, _) = self.bytes.split_at(count);
+        front
+    }
+
+    /// One read, after what was read before. Returns how many bytes came, which is none at the reader's end alone.
+    pub(crate) fn read<I: Read>(&mut self, reader: &mut I) -> Result<usize, LinesFault>
+        ensures came { IfOk result (λ n. (piece : List ℕ) × (length piece ≡ n) × (self.new ≡ self.old ++ piece)
+            × Consumes (I.remaining reader.old) (I.remaining reader.new) piece) }
+        ensures ended { IfOk result (λ n. n ≡ 0 → IsAtEnd (I.remaining reader.new)) }
+        ensures failed { IfErr result (λ fault. fault ≢ Write) }
+    {
+        make_room(&mut self.bytes, self.count)?;
+        let count = read_after(reader, &mut self.bytes, self.count)?;
+        self.count += count;
+        Ok(count)
+    }
+
+    /// How many bytes the whole lines have that end in the last bytes of what was read; none if no line ends there.
+    pub(crate) fn whole_lines(&self, last: usize) -> usize
+        requires { last ≤ length self.now }
+        ensures within { result ≤ length self.now }
+        ensures whole { is_whole (take result self.now) ≡ true }
+    {
+        let before = self.count - last;
+        let (_, piece) = self.as_slice().split_at(before);
+        match memrchr(b'\n', piece) {
+            Some(end) => before + end + 1,
+            None => 0,
+        }
+    }
+
+    /// Leaves out so many first bytes.
+    pub(crate) fn drop_front(&mut self, count: usize)
+        requires { count ≤ length self.old }
+        ensures { self.new ≡ drop count self.old }
+    {
+        if count > 0 {
+            self.bytes.copy_within(count..self.count, 0);
+            self.count -= count;
+        }
+    }
+}
+
+/// Doubles a list of which all bytes were read, or gives it its first room.
+fn make_room(bytes: &mut Vec<u8>, count: usize) -> Result<(), LinesFault>
+    requires { count ≤ vec_len bytes.old }
+    ensures kept { take count bytes.new.items ≡ take count bytes.old.items }
+    ensures longer { vec_len bytes.old ≤ vec_len bytes.new }
+    ensures room { IfOk result (λ _. count < vec_len bytes.new) }
+    ensures failed { IfErr result (λ fault. fault ≢ Write) }
+{
+    let len = bytes.len();
+    if count < len {
+        return Ok(());
+    }
+    let wanted = if len == 0 { FIRST_ROOM } else { 2 * len };
+    match bytes.resize(wanted, 0) {
+        Ok(()) => Ok(()),
+        Err(_) => Err(LinesFault::Memory),
+    }
+}
+
+/// One read into what comes after so many bytes.
+fn read_after<I: Read>(
+    reader: &mut I,
+    bytes: &mut Vec<u8>,
+    before: usize,
+) -> Result<usize, LinesFault>
+    requires { before < vec_len bytes.old }
+    ensures kept { take before bytes.new.items ≡ take before bytes.old.items }
+    ensures len { vec_len bytes.new ≡ vec_len bytes.old }
+    ensures within { IfOk result (λ n. before + n ≤ vec_len bytes.new) }
+    ensures came { IfOk result (λ n. Consumes (I.remaining reader.old) (I.remaining reader.new) (take n (drop before bytes.new.items))) }
+    ensures ended { IfOk result (λ n. n ≡ 0 → IsAtEnd (I.remaining reader.new)) }
+    ensures failed { IfErr result (λ fault. fault ≢ Write) }
+{
+    let (_, room) = bytes.split_at_mut(before);
+    match reader.read(room) {
+        Ok(count) => Ok(count),
+        Err(_) => Err(LinesFault::Read),
+    }
+}
