@@ -108,6 +108,7 @@ class Place:
         self.write("crates.txt", CRATES)
         for name, text in SOURCES.items():
             self.write(f"crates/{name}", f"{text}\n")
+        self.write("crates/plinq_trial/args")
 
     def write(self, name, text=""):
         path = os.path.join(self.top, name)
@@ -226,7 +227,7 @@ def first_answers(place, tests):
     for wanted in (0, 2, 4, 6):
         place.write("orders/status", str(wanted))
         status, output, errors, calls = place.run("seq", "two words", given="some\ninput")
-        tests.check(f"a trial answers with status {wanted}", (status, calls) == (wanted, ["plinq try -- seq two words"]), (status, calls))
+        tests.check(f"a trial answers with status {wanted}", (status, calls) == (wanted, ["plinq_trial try -- seq two words"]), (status, calls))
         tests.check("its bytes are the program's", output == "tried: seq two words; some\ninput", output)
         first, *said, last = errors.splitlines()
         is_so = "without a proof" in first and "without a proof" in last and "./plinq --build" in last and "minutes" in last
@@ -272,7 +273,7 @@ def no_first_answer(place, tests):
     for its_own in (2, 4, 5, 6):
         place.write("orders/no-answer", str(its_own))
         status, output, errors, calls = place.run("run", "--merge", "not", given="the document")
-        is_so = (status, calls) == (3, ["plinq try -- run --merge not", *ALL_CALLS])
+        is_so = (status, calls) == (3, ["plinq_trial try -- run --merge not", *ALL_CALLS])
         tests.check(f"where a trial ends with {its_own} and has no answer, the program is built and answers", is_so, (status, calls))
         tests.check("from the same input", output == f"words: run --merge not; {BUILT}\nthe document", output)
         is_so = "the trial has no answer" in errors and "some" not in errors and "--build" not in errors
@@ -551,7 +552,7 @@ def changes(place, tests):
     place.write("crates.txt", "side:\nlow: thiserror\nmid: low thiserror\nplinq: mid side\n")
     rebuilds("the list of crates changed")
     os.remove(f"{place.top}/crates/plinq/out/plinq")
-    tests.check("where the program went, a trial answers", place.run()[3] == ["plinq try --"])
+    tests.check("where the program went, a trial answers", place.run()[3] == ["plinq_trial try --"])
     tests.check("and it is built again", place.run("--build")[3] == ALL_CALLS)
 
 

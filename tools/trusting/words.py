@@ -11,7 +11,7 @@ LANGUAGE = set("Type where record abbrev unfoldable pub data module let in if th
 CLAUSE = set("result self old new now field 𝓛".split())
 # Traits that Rust has without an import, and where they stand.
 PRELUDE = dict.fromkeys("Eq Ord PartialEq PartialOrd".split(), "std::cmp")
-PRELUDE |= dict.fromkeys("Fn FnMut FnOnce".split(), "std::ops") | {"Clone": "std::clone", "From": "std::convert", "Hash": "std::hash"}
+PRELUDE |= dict.fromkeys("Fn FnMut FnOnce".split(), "std::ops") | {"Clone": "std::clone", "From": "std::convert", "Hash": "std::hash", "HostRuntime": "std::rt"}
 # Types of std's that a Rust type names without an import.
 STD_TYPES = set("""u8 u16 u32 u64 u128 usize i8 i16 i32 i64 i128 isize bool str String Vec Option Result Box Self Send Sync Copy
 Drop Ok Err Some None mut dyn const as crate for""".split())
