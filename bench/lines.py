@@ -21,6 +21,9 @@ WORDS = ["GET", "POST", "/index.html", "/api/v1/users", "200", "404", "500", "Mo
 WORK = {
     "one line in 1,000 by its text": ("filter contains disk_full", [["rg", "-F", "disk_full"], ["grep", "-F", "disk_full"], ["mawk", "index($0, \"disk_full\")"]]),
     "all lines but those": ("filter not contains disk_full", [["rg", "-v", "-F", "disk_full"], ["grep", "-v", "-F", "disk_full"], ["mawk", "!index($0, \"disk_full\")"]]),
+    "a pattern without a text of its own": ("filter matches \" [45]0[0-9] .* [45]0[0-9]$\"", [["rg", " [45]0[0-9] .* [45]0[0-9]$"], ["grep", "-E", " [45]0[0-9] .* [45]0[0-9]$"], ["mawk", "/ [45]0[0-9] .* [45]0[0-9]$/"]]),
+    "a pattern of any characters": (r'filter matches "\d+:\d+ host[0-3] \w+ "', [["rg", r"\d+:\d+ host[0-3] \w+ "], ["grep", "-E", r"[0-9]+:[0-9]+ host[0-3] [[:alnum:]_]+ "]]),
+    "lines by their third field": ("filter field 3 is error", [["mawk", "$3 == \"error\""]]),
     "the third field between blanks": ("select field 3", [["mawk", "{print $3}"]]),
     "the third field by one byte": ("select field 3 by \" \"", [["cut", "-d", " ", "-f", "3"], ["mawk", "-F", "[ ]", "{print $3}"]]),
     "all but the first million lines": ("skip 1000000", [["tail", "-n", "+1000001"]]),

@@ -1,5 +1,5 @@
 #!/usr/bin/env python3
-"""`plinq lines` beside a plain model, and beside grep, cut, head and tail where these do the same.
+"""`plinq lines` beside a plain model, and beside grep, cut, head, tail and awk where these do the same.
 
     python3 tests/lines.py
 
@@ -10,6 +10,7 @@ queries.
 """
 import os
 import random
+import re
 import resource
 import signal
 import subprocess
@@ -27,6 +28,23 @@ TESTS = {
     "starts_with": lambda text, bytes_: text.startswith(bytes_),
     "ends_with": lambda text, bytes_: text.endswith(bytes_),
     "is": lambda text, bytes_: text == bytes_,
+    "matches": lambda text, bytes_: re.search(PATTERNS[bytes_], text) is not None,
+}
+# Regular expressions, each with what means the same in Python over bytes.
+PATTERNS = {
+    rb"": rb"",
+    rb"^a": rb"\Aa",
+    rb"c$": rb"c\Z",
+    rb"^$": rb"\A\Z",
+    rb"b+c": rb"b+c",
+    rb"[ab]{2,}": rb"[ab]{2,}",
+    rb"a|\t": rb"a|\t",
+    rb"(ab)*c": rb"(ab)*c",
+    rb"\\": rb"\\",
+    rb"[\"c] ?b": rb"[\"c] ?b",
+    rb"(?i)A\r?$": rb"[aA]\r?\Z",
+    rb"(?-u:b.*a)": rb"b[^\n]*a",
+    rb"(?-u:[^a])b": rb"[^a]b",
 }
 
 
@@ -52,18 +70,21 @@ def field_of(text, number, separator):
     return fields[number - 1] if number <= len(fields) else b""
 
 
+def passes(text, field, negated, kind, bytes_):
+    """Whether a line's text passes a test, of it or of its field."""
+    return TESTS[kind](text if field is None else field_of(text, *field), bytes_) != negated
+
+
 def answer(steps, lines):
     """What the steps make of lines, step by step over the whole list."""
     for name, *values in steps:
         texts = [(line.rstrip(b"\n"), line[len(line.rstrip(b"\n")) :]) for line in lines]
         if name == "filter":
-            negated, kind, bytes_ = values
-            lines = [text + end for text, end in texts if TESTS[kind](text, bytes_) != negated]
+            lines = [text + end for text, end in texts if passes(text, *values)]
         elif name == "select":
             lines = [field_of(text, *values) + end for text, end in texts]
         elif name in ("take_while", "skip_while"):
-            negated, kind, bytes_ = values
-            count = next((at for at, (text, _) in enumerate(texts) if TESTS[kind](text, bytes_) == negated), len(lines))
+            count = next((at for at, (text, _) in enumerate(texts) if not passes(text, *values)), len(lines))
             lines = lines[:count] if name == "take_while" else lines[count:]
         elif name == "take":
             lines = lines[: values[0]]
@@ -81,22 +102,34 @@ def words_of(steps):
     said = []
     for name, *values in steps:
         if name in ("filter", "take_while", "skip_while"):
-            negated, kind, bytes_ = values
-            said.append(f"{name} {'not ' * negated}{kind} {quoted(bytes_)}")
+            field, negated, kind, bytes_ = values
+            text = f'"{bytes_.decode()}"' if kind == "matches" else quoted(bytes_)
+            subject, no = "" if field is None else words_of_field(*field) + " ", "not " * negated
+            said.append(f"{name} {no + subject if len(said) % 2 else subject + no}{kind} {text}")
         elif name == "select":
-            number, separator = values
-            said.append(f"select field {number}" + ("" if separator is None else f" by {quoted(separator)}"))
+            said.append(f"select {words_of_field(*values)}")
         else:
             said.append(f"{name} {values[0]}")
     return " | ".join(said)
 
 
+def words_of_field(number, separator):
+    return f"field {number}" + ("" if separator is None else f" by {quoted(separator)}")
+
+
+def some_field(by):
+    return by.randint(1, 4), by.choice((None, None, b"a", b"\t", b" "))
+
+
 def some_step(by):
     name = by.choice(("filter", "filter", "select", "take", "skip", "take_while", "skip_while"))
     if name in ("filter", "take_while", "skip_while"):
-        return name, by.random() < 0.3, by.choice(list(TESTS)), by.choice((b"", b"a", b"b c", b"ab", b"c", b"\t", b'"', b"\\", b"a\r"))
+        field = some_field(by) if by.random() < 0.3 else None
+        kind = by.choice(list(TESTS))
+        bytes_ = by.choice(list(PATTERNS) if kind == "matches" else (b"", b"a", b"b c", b"ab", b"c", b"\t", b'"', b"\\", b"a\r"))
+        return name, field, by.random() < 0.3, kind, bytes_
     if name == "select":
-        return name, by.randint(1, 4), by.choice((None, None, b"a", b"\t", b" "))
+        return name, *some_field(by)
     return name, by.choice((0, 1, 2, 5, 40, 2_000))
 
 
@@ -119,7 +152,7 @@ def lines(query, given=b"", words=(), **how):
 
 def by_random(tests):
     by = random.Random(38)
-    for turn in range(220):
+    for turn in range(260):
         text = some_text(by, by.choice((0, 10, 300, 300, 5_000, 5_000, 700_000 if turn % 12 == 0 else 2_000)))
         steps = [some_step(by) for _ in range(by.randint(1, 4))]
         wanted = Outcome(0, answer(steps, lines_of(text)), b"")
@@ -129,7 +162,7 @@ def by_random(tests):
 
 def at_edges(tests):
     """Lines that end at, before and after the end of a block and of a read, and lines longer than both."""
-    steps = [("filter", False, "contains", b"x")]
+    steps = [("filter", None, False, "contains", b"x")]
     for size in (BLOCK, 2 * BLOCK, READ, 2 * READ):
         for off in (-2, -1, 0, 1, 2):
             first = b"x" * (size + off - 1) + b"\n"
@@ -138,7 +171,7 @@ def at_edges(tests):
                 seen = lines(words_of(steps), text, ["--workers", workers])
                 tests.check(f"a line of {size + off} bytes by {workers}", seen == Outcome(0, answer(steps, lines_of(text)), b""), str(seen)[:200])
     text = b"".join(b"%d x\n" % it if it % 3 else b"%d\n" % it for it in range(1_500_000))
-    for given in (steps, [("skip_while", True, "contains", b"700000 x"), ("take_while", True, "is", b"1400000 x")], [("skip", 700_001), ("filter", False, "contains", b"x"), ("take", 400_000)], [("select", 1, None), ("skip", 1_499_999)]):
+    for given in (steps, [("skip_while", None, True, "contains", b"700000 x"), ("take_while", None, True, "is", b"1400000 x")], [("skip", 700_001), ("filter", None, False, "contains", b"x"), ("take", 400_000)], [("select", 1, None), ("skip", 1_499_999)], [("filter", (1, None), False, "matches", b"b+c")], [("filter", None, False, "matches", b"(?i)A\\r?$"), ("take", 3)]):
         for workers in ("1", "2", "64"):
             seen = lines(words_of(given), text, ["--workers", workers])
             tests.check(f"{words_of(given)} of 14 MB by {workers}", seen == Outcome(0, answer(given, lines_of(text)), b""), str(seen)[:200])
@@ -221,20 +254,33 @@ def files(tests, folder):
 
 def mistakes(tests):
     end = "\n\nFor more information, try '--help'.\n"
+    wants_a_test = "step 1 wants contains, starts_with, ends_with, is or matches, with or without not before it"
+    wants_a_number = "step 1: field wants a number from 1 on, as in select field 2"
     for query, said in (
         ("", "step 1 is empty"),
         ("take 1 |", "step 2 is empty"),
         ("| take 1", "step 1 is empty"),
         ("find x", "step 1 is none of filter, select, take, skip, take_while and skip_while"),
         ('take 1 | "filter" is x', "step 2 is none of filter, select, take, skip, take_while and skip_while"),
-        ("filter", "step 1 wants contains, starts_with, ends_with or is, with or without not before it"),
-        ("filter not", "step 1 wants contains, starts_with, ends_with or is, with or without not before it"),
-        ("filter matches x", "step 1 wants contains, starts_with, ends_with or is, with or without not before it"),
-        ("take_while 3", "step 1 wants contains, starts_with, ends_with or is, with or without not before it"),
+        ("filter", wants_a_test),
+        ("filter not", wants_a_test),
+        ("filter finds x", wants_a_test),
+        ("filter not field 2 not is x", wants_a_test),
+        ("filter contains 'x'", "a word begins with a single quote: texts stand in double quotes"),
+        ("filter field 2", wants_a_test),
+        ('filter field 2 by "," x', wants_a_test),
+        ("filter field is x", wants_a_number),
+        ("filter field 0 is x", wants_a_number),
+        ("filter field 2 by ab is x", 'step 1: by wants a text of one byte, as by "," or by "\\t"'),
+        ("filter matches", 'step 1: a text is missing, as in contains "disk full"'),
+        ("take 1 | filter matches a(b", "step 2: the pattern is wrong: regex parse error at 1..2: unclosed group"),
+        ('filter matches "x{2"', "step 1: the pattern is wrong: regex parse error at 1..3: unclosed counted repetition"),
+        ("filter matches (?:a{1000}){1000}", "step 1: the pattern takes more than 10 MiB once it is compiled"),
+        ("take_while 3", wants_a_test),
         ("filter contains", 'step 1: a text is missing, as in contains "disk full"'),
-        ("select field", "step 1: select wants field and a number from 1 on, as field 2"),
-        ("select field 0", "step 1: select wants field and a number from 1 on, as field 2"),
-        ("select 2", "step 1: select wants field and a number from 1 on, as field 2"),
+        ("select field", wants_a_number),
+        ("select field 0", wants_a_number),
+        ("select 2", wants_a_number),
         ('select field 2 by ", "', 'step 1: by wants a text of one byte, as by "," or by "\\t"'),
         ("select field 2 by", 'step 1: by wants a text of one byte, as by "," or by "\\t"'),
         ("select field 2 between x", "step 1 goes on after its end: a bar parts two steps"),
@@ -313,6 +359,10 @@ def beside_others(tests):
         ("select field 2 by \"`\"", ["cut", "-d", "`", "-f", "2"]),
         ("take 7", ["head", "-n", "7"]),
         ("skip 7", ["tail", "-n", "+8"]),
+        ("filter matches \"[0-9]+ [a-z]+[,.]\"", ["grep", "-E", "[0-9]+ [a-z]+[,.]"]),
+        ("filter not matches ^-", ["grep", "-v", "-E", "^-"]),
+        ("filter field 1 is -", ["awk", '$1 == "-"']),
+        ("filter field 3 by \"`\" not contains plinq", ["awk", "-F", "`", "!index($3, \"plinq\")"]),
     ):
         theirs = subprocess.run(words, input=text, capture_output=True, env=os.environ | {"LC_ALL": "C"}).stdout
         # (cut prints a line without its separator whole, which is no field of it)

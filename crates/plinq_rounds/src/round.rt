@@ -106,7 +106,7 @@ fn pass_blocks(
 {
     let mut passed = Vec::new(alloc);
     for block in blocks {
-        pass_lines(steps, block.as_slice(), &mut passed)?;
+        pass_lines(alloc, steps, block.as_slice(), &mut passed)?;
     }
     Ok(passed)
 }

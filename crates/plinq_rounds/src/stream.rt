@@ -101,7 +101,7 @@ fn answer_last<W: Write>(
     ensures { Passes steps.old (lines_of text.now) (W.contents out.old) (W.contents out.new) result steps.new }
 {
     let mut passed = Vec::new(alloc);
-    pass_lines(steps, text, &mut passed)?;
+    pass_lines(alloc, steps, text, &mut passed)?;
     write_bytes(out, passed.as_slice())?;
     flush(out)
 }

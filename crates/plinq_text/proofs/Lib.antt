@@ -1,3 +1,5 @@
 pub mod LineLaws
 pub mod FieldLaws
 pub mod StepLaws
+mod PatternLaws
+mod PatternRows

@@ -2,4 +2,5 @@ pub mod Fields
 pub mod Lines
 pub mod inner
 pub mod LineRows
+pub mod Patterns
 pub mod Steps

@@ -1,31 +1,41 @@
 -- What the steps of a query make of lines.
 use Rattle.std.specs.Prelude.{ℕ, zero, suc, ◌-◌, ◌==◌, nat_eq, ◌||◌, ◌&&◌, Bool, true, false, not, if◌then◌else◌, List, [], ◌∷◌, ◌++◌, take}
-use Rattle.std.specs.Prelude.{drop, map, filter, Option, Some, None, is_some, option_map, option_and_then, filter_map}
+use Rattle.std.specs.Prelude.{drop, map, filter, Option, Some, None, is_some, option_map, option_and_then, filter_map, string_bytes}
 use Rattle.std.specs.List.{starts_with, ends_with, prefix_len, take_while}
 use Rattle.std.specs.Str.{bytes_eq}
 use Rattle.memchr.specs.Find.{first_of, matches}
+use Rattle.plinq_text.specs.declared.line_step.Field.{Field}
 use Rattle.plinq_text.specs.declared.line_step.LineStep.{LineStep}
 use Rattle.plinq_text.specs.declared.line_step.LineStep.TheVariants.{Filter, Select, Take, Skip, TakeWhile, SkipWhile}
 use Rattle.plinq_text.specs.declared.line_test.LineTest.{LineTest}
 use Rattle.plinq_text.specs.declared.line_test.TestKind.{TestKind}
-use Rattle.plinq_text.specs.declared.line_test.TestKind.TheVariants.{Contains, StartsWith, EndsWith, Is}
+use Rattle.plinq_text.specs.declared.line_test.TestKind.TheVariants.{Contains, StartsWith, EndsWith, Is, Matches}
 use Rattle.plinq_text.specs.Fields.{field_of}
+use Rattle.plinq_text.specs.Patterns.{pattern_finds}
 use Rattle.plinq_text.specs.Lines.{Line, lines_of, written}
 
 -- whether these bytes stand somewhere in a text
 abbrev pub contains : List ℕ → List ℕ → Bool
 contains bytes text = is_some (first_of (matches text bytes 0))
 
--- whether a text compares so with these bytes
+-- whether bytes compare so with a text
 abbrev pub compares : TestKind → List ℕ → List ℕ → Bool
-compares Contains bytes text = contains bytes text
-compares StartsWith bytes text = starts_with nat_eq text bytes
-compares EndsWith bytes text = ends_with nat_eq text bytes
-compares Is bytes text = bytes_eq text bytes
+compares Contains wanted bytes = contains wanted bytes
+compares StartsWith wanted bytes = starts_with nat_eq bytes wanted
+compares EndsWith wanted bytes = ends_with nat_eq bytes wanted
+compares Is wanted bytes = bytes_eq bytes wanted
+compares Matches pattern bytes = pattern_finds pattern bytes
+
+-- what a test looks at: a field of a text, or all of it
+abbrev pub subject : Option Field → List ℕ → List ℕ
+subject None text = text
+subject (Some f) text = field_of f text
 
 -- whether a text passes a test
 abbrev pub passes : LineTest → List ℕ → Bool
-passes t text = if t.negated then not (compares t.kind t.bytes.items text) else compares t.kind t.bytes.items text
+passes t text =
+    let holds = compares t.kind (string_bytes t.text) (subject t.field text) in
+    if t.negated then not holds else holds
 
 -- a line with another text
 abbrev pub with_text : Line → List ℕ → Line

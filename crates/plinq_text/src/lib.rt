@@ -12,6 +12,7 @@ mod line_step;
 mod line_test;
 mod making;
 mod passing;
+mod pattern;
 mod ready;
 mod splitting;
 

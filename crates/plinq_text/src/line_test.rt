@@ -1,49 +1,71 @@
 ghost use Rattle.std.specs.Prelude.{◌≡◌};
-ghost use Rattle.plinq_text.specs.Steps.{compares, passes};
+ghost use Rattle.plinq_text.specs.Steps.{compares, passes, subject};
+ghost use Rattle.plinq_text.specs.inner.Searchers.{pattern_for, pattern_of};
 
+use crate::fields::field;
+use crate::line_step::Field;
+use crate::pattern::Searcher;
 use memchr::memmem;
 
 /// A test of a line's text, byte by byte.
 #[derive(Debug, Drop)]
 pub struct LineTest {
-    /// How the text is compared with the bytes.
+    /// What is looked at: a field of the text, or all of it.
+    pub field: Option<Field>,
+    /// How that is compared.
     pub kind: TestKind,
-    /// What is looked for.
-    pub bytes: Vec<u8>,
-    /// Whether a text passes that doesn't compare so.
+    /// What it is compared with.
+    pub text: String,
+    /// Whether a line passes that doesn't compare so.
     pub negated: bool,
 }
 
-/// How a line's text is compared with some bytes.
+/// How bytes are compared with a text.
 #[derive(Clone, Copy, Debug, PartialEq, Eq)]
 pub enum TestKind {
-    /// The bytes stand somewhere in it.
+    /// The text stands somewhere in them.
     Contains,
-    /// It begins with them.
+    /// They begin with it.
     StartsWith,
-    /// It ends with them.
+    /// They end with it.
     EndsWith,
-    /// It is these bytes.
+    /// They are the text.
     Is,
+    /// The text is a regular expression, with the syntax of Rust's `regex`, and matches somewhere in them.
+    Matches,
 }
 
-/// Whether a text passes the test.
-pub(crate) fn passes(test: &LineTest, text: &[u8]) -> bool
-    ensures { result ≡ passes test.now text.now }
+/// Whether a line's text passes the test, of which `searcher` searches for the pattern if it has one.
+pub(crate) fn passes(test: &LineTest, searcher: &mut Searcher<'_>, text: &[u8]) -> bool
+    requires { searcher.old ≡ pattern_of test.now }
+    ensures value { result ≡ passes test.now text.now }
+    ensures same { searcher.new ≡ searcher.old }
 {
-    if test.negated {
-        return !compares(test.kind, test.bytes.as_slice(), text);
-    }
-    compares(test.kind, test.bytes.as_slice(), text)
+    let looked_at = subject(test.field, text);
+    let compares = compares(test.kind, test.text.as_bytes(), searcher, looked_at);
+    if test.negated { !compares } else { compares }
 }
 
-fn compares(kind: TestKind, bytes: &[u8], text: &[u8]) -> bool
-    ensures { result ≡ compares kind bytes.now text.now }
+/// What a test looks at.
+fn subject(which: Option<Field>, text: &[u8]) -> &[u8]
+    ensures { result.now ≡ subject which text.now }
+{
+    match which {
+        Some(which) => field(text, which),
+        None => text,
+    }
+}
+
+fn compares(kind: TestKind, wanted: &[u8], searcher: &mut Searcher<'_>, text: &[u8]) -> bool
+    requires { searcher.old ≡ pattern_for kind wanted.now }
+    ensures value { result ≡ compares kind wanted.now text.now }
+    ensures same { searcher.new ≡ searcher.old }
 {
     match kind {
-        TestKind::Contains => memmem::find(text, bytes).is_some(),
-        TestKind::StartsWith => text.starts_with(bytes),
-        TestKind::EndsWith => text.ends_with(bytes),
-        TestKind::Is => text == bytes,
+        TestKind::Contains => memmem::find(text, wanted).is_some(),
+        TestKind::StartsWith => text.starts_with(wanted),
+        TestKind::EndsWith => text.ends_with(wanted),
+        TestKind::Is => text == wanted,
+        TestKind::Matches => searcher.finds(text),
     }
 }

@@ -16,6 +16,9 @@ pub enum QueryFault {
     /// A quote stands in the midst of a word.
     #[error("a quote stands within a word: a text in quotes is a word of its own")]
     QuoteInWord,
+    /// A word begins with a single quote.
+    #[error("a word begins with a single quote: texts stand in double quotes")]
+    SingleQuote,
     /// Nothing stands between two bars, or before the first or after the last.
     #[error("step {0} is empty")]
     NoStep(usize),
@@ -23,13 +26,19 @@ pub enum QueryFault {
     #[error("step {0} is none of filter, select, take, skip, take_while and skip_while")]
     UnknownStep(usize),
     /// A filter, take_while or skip_while has no test.
-    #[error("step {0} wants contains, starts_with, ends_with or is, with or without not before it")]
+    #[error("step {0} wants contains, starts_with, ends_with, is or matches, with or without not before it")]
     NoTest(usize),
     /// A test has no text.
     #[error("step {0}: a text is missing, as in contains \"disk full\"")]
     NoText(usize),
-    /// A select has no field.
-    #[error("step {0}: select wants field and a number from 1 on, as field 2")]
+    /// What a test is to match is no regular expression.
+    #[error("step {0}: the pattern is wrong: {1}")]
+    Pattern(usize, regex::Error),
+    /// A pattern is too large.
+    #[error("step {0}: the pattern takes more than 10 MiB once it is compiled")]
+    LargePattern(usize),
+    /// A select has no field, or a field no number.
+    #[error("step {0}: field wants a number from 1 on, as in select field 2")]
     NoField(usize),
     /// A separator isn't one byte.
     #[error("step {0}: by wants a text of one byte, as by \",\" or by \"\\t\"")]

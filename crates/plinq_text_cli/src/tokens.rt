@@ -8,9 +8,20 @@ pub(crate) enum Token {
     /// A word as it stands.
     Word(String),
     /// A text that stood in quotes.
-    Text(String),
+    Text(Quoted),
     /// What parts two steps.
     Bar,
+}
+
+/// A text that stood in quotes.
+#[derive(Debug, Drop)]
+pub(crate) struct Quoted {
+    /// As it stood there, backslashes and all.
+    pub(crate) raw: String,
+    /// What it means.
+    pub(crate) text: String,
+    /// Whether each backslash in it stands before a character before which it may.
+    pub(crate) is_plain: bool,
 }
 
 /// Where a reader of tokens is.
@@ -27,7 +38,9 @@ enum Place {
 struct TokenReader {
     alloc: Global,
     tokens: Vec<Token>,
+    raw: String,
     text: String,
+    is_plain: bool,
     place: Place,
 }
 
@@ -36,7 +49,9 @@ pub(crate) fn tokens_of(alloc: Global, words: &str) -> Result<Vec<Token>, QueryF
     let mut reader = TokenReader {
         alloc,
         tokens: Vec::new(alloc),
+        raw: String::new(alloc),
         text: String::new(alloc),
+        is_plain: true,
         place: Place::Between,
     };
     for c in words.chars() {
@@ -72,6 +87,9 @@ impl TokenReader {
         if c == '"' {
             return Ok(Place::InText);
         }
+        if c == '\'' {
+            return Err(QueryFault::SingleQuote);
+        }
         self.text.push(c)?;
         Ok(Place::InWord)
     }
@@ -89,27 +107,38 @@ impl TokenReader {
     }
 
     fn quote(&mut self, c: char) -> Result<Place, QueryFault> {
+        if c == '"' {
+            self.end_text()?;
+            return Ok(Place::Between);
+        }
+        self.raw.push(c)?;
         if c == '\\' {
             return Ok(Place::AfterBackslash);
-        }
-        if c == '"' {
-            let text = mem::replace(&mut self.text, String::new(self.alloc));
-            self.tokens.push(Token::Text(text))?;
-            return Ok(Place::Between);
         }
         self.text.push(c)?;
         Ok(Place::InText)
     }
 
     fn escape(&mut self, c: char) -> Result<Place, QueryFault> {
-        let meant = match c {
-            '"' | '\\' => c,
-            't' => '\t',
-            'r' => '\r',
-            _ => return Err(QueryFault::Escape),
-        };
-        self.text.push(meant)?;
+        self.raw.push(c)?;
+        match c {
+            '"' | '\\' => self.text.push(c)?,
+            't' => self.text.push('\t')?,
+            'r' => self.text.push('\r')?,
+            _ => self.is_plain = false,
+        }
         Ok(Place::InText)
+    }
+
+    fn end_text(&mut self) -> Result<(), QueryFault> {
+        let quoted = Quoted {
+            raw: mem::replace(&mut self.raw, String::new(self.alloc)),
+            text: mem::replace(&mut self.text, String::new(self.alloc)),
+            is_plain: self.is_plain,
+        };
+        self.is_plain = true;
+        self.tokens.push(Token::Text(quoted))?;
+        Ok(())
     }
 
     fn end_word(&mut self) -> Result<(), QueryFault> {

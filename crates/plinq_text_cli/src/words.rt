@@ -5,14 +5,16 @@ use std::alloc::{AllocError, Global};
 
 /// What stands at the end of the command's help.
 const AFTER_HELP: &str = r#"A query is one or more steps, parted by bars:
-  filter [not] contains|starts_with|ends_with|is TEXT   lets a line pass by its text
+  filter [not] [field N [by TEXT]] contains|starts_with|ends_with|is|matches TEXT
+           lets a line pass by its text, or by a field of it
   select field N [by TEXT]   puts a field in the line's place, counted from 1: between blanks, or by one byte
   take N   ends after so many lines
   skip N   leaves out so many first lines
-  take_while [not] .. TEXT   ends before the first line whose text fails the test, which is one as filter has it
-  skip_while [not] .. TEXT   leaves out the lines before that one
+  take_while .. TEXT   ends before the first line that fails the test, which is one as filter has it
+  skip_while .. TEXT   leaves out the lines before that one
 A TEXT stands in double quotes, in which \" \\ \t and \r are a quote, a backslash, a tab and a carriage return. Without blanks,
-quotes and bars it needs none. Steps look at bytes, so any file will do. A line feed ends a line, and stays as it is.
+quotes and bars it needs none. That of matches is a regular expression with the syntax of Rust's regex, and its backslashes are
+those of the expression. Steps look at bytes, so any file will do. A line feed ends a line, and stays as it is.
 
 Lines are written in their order as soon as they are ready. Errors go to standard error.
 

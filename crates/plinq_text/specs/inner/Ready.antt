@@ -1,8 +1,9 @@
 -- Steps made ready for many lines.
-use Rattle.std.specs.Prelude.{ℕ, Bool, not, if◌then◌else◌, List, [], ◌∷◌, Option, Some, None, option_and_then}
+use Rattle.std.specs.Prelude.{◌≡◌, ℕ, Bool, not, if◌then◌else◌, List, [], ◌∷◌, Option, Some, None, option_and_then, ⊤}
 use Rattle.plinq_text.specs.declared.ready.ReadyStep.{ReadyStep}
 use Rattle.plinq_text.specs.declared.ready.ReadyStep.TheVariants.{Search, SearchNot, Test, TestNot, Part, Pass, Nothing}
 use Rattle.plinq_text.specs.Fields.{field_of}
+use Rattle.plinq_text.specs.inner.Searchers.{pattern_of}
 use Rattle.plinq_text.specs.Steps.{contains, passes}
 
 -- a text that passes
@@ -13,11 +14,21 @@ kept_if b text = if b then Some text else None
 abbrev pub does_ready : ReadyStep → List ℕ → Option (List ℕ)
 does_ready (Search bytes) text = kept_if (contains bytes text) text
 does_ready (SearchNot bytes) text = kept_if (not (contains bytes text)) text
-does_ready (Test t) text = kept_if (passes t.now text) text
-does_ready (TestNot t) text = kept_if (not (passes t.now text)) text
+does_ready (Test t) text = kept_if (passes t.test.now text) text
+does_ready (TestNot t) text = kept_if (not (passes t.test.now text)) text
 does_ready (Part f) text = Some (field_of f text)
 does_ready Pass text = Some text
 does_ready Nothing text = None
+
+-- what searches for the pattern of a ready step's test searches for that one
+abbrev pub IsReady : ReadyStep → Type 0
+IsReady (Search bytes) = ⊤
+IsReady (SearchNot bytes) = ⊤
+IsReady (Test t) = t.searcher ≡ pattern_of t.test.now
+IsReady (TestNot t) = t.searcher ≡ pattern_of t.test.now
+IsReady (Part f) = ⊤
+IsReady Pass = ⊤
+IsReady Nothing = ⊤
 
 -- what ready steps make of the text of one line
 unfoldable pub row_ready : List ReadyStep → List ℕ → Option (List ℕ)

@@ -1,6 +1,6 @@
-use Rattle.std.proofs.Common.{◌++◌, append_assoc, append-nil, ap, sym, ◌∙◌}
+use Rattle.std.proofs.Common.{All, ◌++◌, append_assoc, append-nil, ap, sym, subst, ◌∙◌}
 use Rattle.plinq_text.specs.Lines.{Line, lines_of, written}
-use Rattle.plinq_text.specs.inner.Ready.{row_ready}
+use Rattle.plinq_text.specs.inner.Ready.{IsReady, row_ready}
 use Rattle.plinq_text.specs.Steps.{bytes_of, made_lines}
 use Rattle.plinq_text.proofs.StepLaws.{written-cons}
 use Rattle.plinq_text.proofs.making.make_ready.Goals as goal
@@ -13,15 +13,22 @@ loop-line-preserved c =
     let end = c.in-Some.line.end.now in
     let later = written (made_lines f (lines_of c.in-Some.line.rest.now)) in
     let line : Line = record { text = text; end = end } in
-    c.loop-line.invariant
-    ∙ ap (λ ls. out ++ written (made_lines f ls)) c.in-Some.ensures.0
-    ∙ ap (λ b. out ++ b) (written-cons (f text) line (made_lines f (lines_of c.in-Some.line.rest.now)))
-    ∙ ap (λ o. out ++ (bytes_of o end ++ later)) (sym c.through.ensures)
-    ∙ sym (append_assoc out _ later)
-    ∙ ap (λ b. b ++ later) (sym c.in_ok-put_line.ensures)
+    let does = c.through.ensures.does ∙ ap (λ ss. row_ready ss text) c.loop-line.invariant.steps in
+    record {
+      made = c.loop-line.invariant.made
+          ∙ ap (λ ls. out ++ written (made_lines f ls)) c.in-Some.ensures.0
+          ∙ ap (λ b. out ++ b) (written-cons (f text) line (made_lines f (lines_of c.in-Some.line.rest.now)))
+          ∙ ap (λ o. out ++ (bytes_of o end ++ later)) (sym does)
+          ∙ sym (append_assoc out _ later)
+          ∙ ap (λ b. b ++ later) (sym c.in_ok-put_line.ensures);
+      steps = c.through.ensures.same ∙ c.loop-line.invariant.steps;
+    }
+
+pub through-requires : goal.through-requires
+through-requires c = subst (All IsReady) (sym c.loop-line.invariant.steps) c.requires
 
 pub returns : goal.returns
 returns c =
     let f = row_ready c.args.steps.now in
     let out = c.loop-line.out.items in
-    sym (c.loop-line.invariant ∙ ap (λ ls. out ++ written (made_lines f ls)) c.in_default.ensures ∙ append-nil out)
+    sym (c.loop-line.invariant.made ∙ ap (λ ls. out ++ written (made_lines f ls)) c.in_default.ensures ∙ append-nil out)

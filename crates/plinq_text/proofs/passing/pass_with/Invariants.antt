@@ -1,12 +1,14 @@
 use Rattle.std.proofs.Common.{◌≡◌, ◌++◌, length}
+use Rattle.plinq_text.specs.inner.Searchers.{AreSearchers}
 use Rattle.plinq_text.specs.Lines.{lines_of, written}
 use Rattle.plinq_text.specs.Steps.{answer, answer_text, left}
-use Rattle.plinq_text.proofs.passing.pass_lines.Given as goal
+use Rattle.plinq_text.proofs.passing.pass_with.Given as goal
 
 abbrev pub invariant-loop-line : goal.invariant-loop-line
 invariant-loop-line l = record {
   made : l.fn.out.items ++ answer_text l.fn.steps l.text ≡ l.out.items ++ written (answer l.steps (lines_of l.rest));
   left : left l.fn.steps (lines_of l.text) ≡ left l.steps (lines_of l.rest);
+  searchers : AreSearchers l.steps l.searchers;
 }
 
 abbrev pub decreases-loop-line : goal.decreases-loop-line
