@@ -151,6 +151,10 @@ def counted(tests, folder):
     """What the lines count, with no commands but the shell's own, and that the number stands in the place of the word alone."""
     with open(f"{ROOT}/tools/start.sh", encoding="utf-8") as file:
         lines = file.read()
+    says = f"{folder}/says"
+    with open(says, "w", encoding="utf-8") as file:
+        file.write('#!/bin/sh\nfor it in "$@"; do echo "$it"; done\n')
+    os.chmod(says, 0o755)
     for name, (wanted, allowed, online, files, own) in COUNTED.items():
         status = "Name:\tsh\n" + ("" if allowed is None else f"Cpus_allowed:\tff\nCpus_allowed_list:\t{allowed}\nMems_allowed:\t1")
         there = {f"groups/{path}": text for path, text in files.items()} | {"cgroup": own, "status": status} | ({} if online is None else {"online": online})
@@ -168,9 +172,18 @@ def counted(tests, folder):
             words = ["run", "--merge", "auto", "--workers", "auto", "a b", "", "--merge=auto", "auto"]
             number = [str(wanted)] if wanted else ["auto"]
             for given, told in ((words, [*words[:4], *number, *words[5:]]), (["--workers=auto"], [f"--workers={number[0]}"]), (["--workers", "auto", "--workers", "3"], ["--workers", *number, "--workers", "3"])):
-                line = f'set -eu\n{script}\nstart_program /bin/sh -c \'for it in "$@"; do echo "$it"; done\' sh "$@"'
-                ran = subprocess.run([f"/bin/{shell}", "-c", line, "plinq", *given], env={"PATH": ""}, capture_output=True, text=True, timeout=HANGS)
-                tests.check(f"{shell}: {name}: {given}", (ran.returncode, ran.stdout.splitlines(), ran.stderr) == (0, told, ""), (ran.stdout, ran.stderr))
+                passed_on(tests, says, shell, name, script, given, told)
+            # (lines have as many workers as cores unless they are given a number)
+            without = ["lines", "skip 0", "a b"]
+            passed_on(tests, says, shell, name, script, without, ["lines", f"--workers={wanted}", *without[1:]] if wanted else without)
+            passed_on(tests, says, shell, name, script, ["lines", "--workers", "3", "skip 0"], ["lines", "--workers", "3", "skip 0"])
+
+
+def passed_on(tests, says, shell, name, script, given, told):
+    """The words that the start script gives the program."""
+    line = f'set -eu\n{script}\nstart_program "{says}" "$@"'
+    ran = subprocess.run([f"/bin/{shell}", "-c", line, "plinq", *given], env={"PATH": ""}, capture_output=True, text=True, timeout=HANGS)
+    tests.check(f"{shell}: {name}: {given}", (ran.returncode, ran.stdout.splitlines(), ran.stderr) == (0, told, ""), (ran.stdout, ran.stderr))
 
 
 def quota_group():

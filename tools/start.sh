@@ -20,21 +20,29 @@ start_program() {
             before=$word left=$((left - 1))
         done
     fi
+    # (a query over lines has as many workers as cores unless it says how many)
+    if [ "${1-}" = lines ] && [ "$names_workers" = no ]; then
+        count_cores
+        if [ "$cores" != 0 ]; then
+            shift
+            set -- lines "--workers=$cores" "$@"
+        fi
+    fi
     limit_memory "$@"
     # (on a terminal a second line says why something failed)
     [ ! -t 2 ] || export PLINQ_EXPLAIN=yes
     exec "$program" "$@"
 }
 
-# The last word or number that the words have for `--workers`, and whether one of them is `auto`. Without it there are four, and
-# for lines as many as cores.
+# The last word or number that the words have for `--workers`, whether there is one, and whether one of them is `auto`. Without it
+# there are four, and for lines as many as cores.
 workers_of() {
-    workers=4 before= asks_for_cores=no
+    workers=4 before= asks_for_cores=no names_workers=no
     [ "${1-}" != lines ] || workers=auto
     for word in "$@"; do
         case $before:$word in
-            --workers:*) workers=$word ;;
-            *:--workers=*) workers=${word#*=} ;;
+            --workers:*) workers=$word names_workers=yes ;;
+            *:--workers=*) workers=${word#*=} names_workers=yes ;;
         esac
         case $before:$word in
             --workers:auto | *:--workers=auto) asks_for_cores=yes ;;
