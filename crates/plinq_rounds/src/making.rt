@@ -12,13 +12,13 @@ use plinq_ops::Query;
 use plinq_run::RunFault;
 use plinq_settings::Degree;
 use plinq_slice::list_source;
-use plinq_text::{LineStep, make_lines};
+use plinq_text::{LineStep, has_pattern, make_lines};
 use std::alloc::Global;
 use std::sync::Wait;
 use std::thread::Threads;
 use std::time::Clock;
 
-/// How many bytes a block has at least, but for the last.
+/// How many bytes a block has at least, but for the last, if nothing is compiled for it.
 const BLOCK_BYTES: usize = 262_144;
 
 /// Makes the output of a block of lines.
@@ -62,7 +62,7 @@ where
     if text.len() <= BLOCK_BYTES || workers.number() == 1 {
         return make_here(alloc, steps, text);
     }
-    let Ok(spans) = cut_blocks(alloc, text, BLOCK_BYTES) else {
+    let Ok(spans) = cut_blocks(alloc, text, block_bytes(workers, steps, text)) else {
         return Err(RunFault::Memory);
     };
     let Ok(source) = list_source(alloc, spans) else {
@@ -72,6 +72,14 @@ where
     let make = MakeBlock { steps, text };
     let (blocks, _) = to_vec_mapped(rt, alloc, &query, source, &MapEach { make })?;
     Ok(blocks)
+}
+
+/// How many bytes a block has at least. If a pattern is compiled for each block, there are no more blocks than workers.
+fn block_bytes(workers: Degree, steps: &[LineStep], text: &[u8]) -> usize {
+    if !has_pattern(steps) {
+        return BLOCK_BYTES;
+    }
+    (text.len() / workers.number() as usize).max(BLOCK_BYTES)
 }
 
 /// The same on the caller's thread, in one block.

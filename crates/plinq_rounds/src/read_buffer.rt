@@ -9,18 +9,16 @@ use std::alloc::Global;
 use std::io::Read;
 use std::marker::Model;
 
-/// How many bytes a buffer has room for at first.
-const FIRST_ROOM: usize = 4_194_304;
-
 /// What was read and isn't answered yet, and room for more.
 ///
-/// One buffer serves any number of readers, one after another. It takes 4 MiB at its first read; a line that doesn't fit doubles
+/// One buffer serves any number of readers, one after another. It takes memory at its first read; a line that doesn't fit doubles
 /// it.
 #[derive(Drop)]
 pub struct ReadBuffer {
     bytes: Vec<u8>,
     // So many of them were read. The others are room.
     count: usize,
+    first_room: usize,
     ghost within: { count ≤ vec_len bytes },
 }
 
@@ -31,13 +29,14 @@ impl Model for ReadBuffer {
 }
 
 impl ReadBuffer {
-    /// A buffer that takes no memory yet.
-    pub fn new(alloc: Global) -> ReadBuffer
+    /// A buffer that takes no memory yet. A read gives at most so many bytes, as long as no line has more.
+    pub fn new(alloc: Global, first_room: usize) -> ReadBuffer
         ensures { result ≡ [] }
     {
         ReadBuffer {
             bytes: Vec::new(alloc),
             count: 0,
+            first_room,
         }
     }
 
@@ -71,7 +70,7 @@ impl ReadBuffer {
         ensures ended { IfOk result (λ n. n ≡ 0 → IsAtEnd (I.remaining reader.new)) }
         ensures failed { IfErr result (λ fault. fault ≢ Write) }
     {
-        make_room(&mut self.bytes, self.count)?;
+        make_room(&mut self.bytes, self.count, self.first_room)?;
         let count = read_after(reader, &mut self.bytes, self.count)?;
         self.count += count;
         Ok(count)
@@ -104,7 +103,7 @@ impl ReadBuffer {
 }
 
 /// Doubles a list of which all bytes were read, or gives it its first room.
-fn make_room(bytes: &mut Vec<u8>, count: usize) -> Result<(), LinesFault>
+fn make_room(bytes: &mut Vec<u8>, count: usize, first_room: usize) -> Result<(), LinesFault>
     requires { count ≤ vec_len bytes.old }
     ensures kept { take count bytes.new.items ≡ take count bytes.old.items }
     ensures longer { vec_len bytes.old ≤ vec_len bytes.new }
@@ -115,7 +114,7 @@ fn make_room(bytes: &mut Vec<u8>, count: usize) -> Result<(), LinesFault>
     if count < len {
         return Ok(());
     }
-    let wanted = if len == 0 { FIRST_ROOM } else { 2 * len };
+    let wanted = if len == 0 { first_room.max(1) } else { 2 * len };
     match bytes.resize(wanted, 0) {
         Ok(()) => Ok(()),
         Err(_) => Err(LinesFault::Memory),

@@ -124,6 +124,27 @@ abbrev pub are_alone : List LineStep → Bool
 are_alone [] = true
 are_alone (s ∷ ss) = is_alone s && are_alone ss
 
+-- whether a step searches for a pattern
+abbrev pub is_search : TestKind → Bool
+is_search Contains = false
+is_search StartsWith = false
+is_search EndsWith = false
+is_search Is = false
+is_search Matches = true
+
+abbrev pub searches : LineStep → Bool
+searches (Filter t) = is_search t.kind
+searches (Select f) = false
+searches (Take n) = false
+searches (Skip n) = false
+searches (TakeWhile t) = is_search t.kind
+searches (SkipWhile t) = is_search t.kind
+
+-- whether one of these steps does
+abbrev pub has_pattern : List LineStep → Bool
+has_pattern [] = false
+has_pattern (s ∷ ss) = searches s || has_pattern ss
+
 -- whether a step is a Take that has nothing left to take
 abbrev pub takes_none : LineStep → Bool
 takes_none (Take n) = n == 0

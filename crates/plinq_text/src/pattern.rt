@@ -2,6 +2,7 @@ ghost use Rattle.std.specs.Prelude.{◌≡◌, IfOk, IfSome, List, ℕ, Option, 
 ghost use Rattle.std.specs.Option.{ForSome};
 ghost use Rattle.regex.specs.Bytes.{matcher_pattern, regex_source};
 ghost use Rattle.plinq_text.specs.Patterns.{pattern_finds};
+ghost use Rattle.plinq_text.specs.Steps.{has_pattern, is_search, searches};
 ghost use Rattle.plinq_text.specs.inner.Searchers.{FindsAs, IsCompiled, pattern_of, pattern_of_step};
 
 use crate::line_step::LineStep;
@@ -91,6 +92,36 @@ impl<'r> Searcher<'r> {
             return false;
         };
         matcher.is_match(text)
+    }
+}
+
+/// Whether a step searches for a pattern, which each call of [`make_lines`](crate::make_lines) compiles.
+pub fn has_pattern(steps: &[LineStep]) -> bool
+    ensures { result ≡ has_pattern steps.now }
+{
+    match steps.split_first() {
+        Some((step, later)) => searches(step) || has_pattern(later),
+        None => false,
+    }
+}
+
+fn searches(step: &LineStep) -> bool
+    ensures { result ≡ searches step.now }
+{
+    match step {
+        LineStep::Filter(test) => is_search(test.kind),
+        LineStep::TakeWhile(test) => is_search(test.kind),
+        LineStep::SkipWhile(test) => is_search(test.kind),
+        LineStep::Select(_) | LineStep::Take(_) | LineStep::Skip(_) => false,
+    }
+}
+
+fn is_search(kind: TestKind) -> bool
+    ensures { result ≡ is_search kind }
+{
+    match kind {
+        TestKind::Matches => true,
+        TestKind::Contains | TestKind::StartsWith | TestKind::EndsWith | TestKind::Is => false,
     }
 }
 

@@ -17,6 +17,9 @@ use std::thread::{Threads, available_parallelism};
 use std::time::Clock;
 use std::{fs, io};
 
+/// The most bytes of one read.
+const READ_BYTES: usize = 4_194_304;
+
 /// What the lines of each reader are answered with.
 #[derive(Drop)]
 struct Answering {
@@ -86,7 +89,7 @@ where
         alloc,
         workers,
         steps,
-        buffer: ReadBuffer::new(alloc),
+        buffer: ReadBuffer::new(alloc, READ_BYTES),
     };
     if asked.files.is_empty() {
         return answer_named(rt, &mut answering, "-", true, input, out, err);
