@@ -1,5 +1,5 @@
 #!/usr/bin/env python3
-"""`plinq lines` beside a plain model, and beside grep, cut, head, tail and awk where these do the same.
+"""`plinq lines` beside a plain model, and beside grep, cut, head, tail, awk and sed where these do the same.
 
     python3 tests/lines.py
 
@@ -374,6 +374,25 @@ def beside_others(tests):
         tests.check(f"{query} beside {words[0]}", seen == Outcome(0, theirs, b""), str(seen)[:200])
 
 
+def of_examples(tests):
+    """The queries of examples/README.md, beside the commands that stand there."""
+    with open(os.path.join(ROOT, "examples", "README.md"), encoding="utf-8") as file:
+        page = file.read().partition("| the lines | query | as others do it |\n")[2].partition("\n\n")[0]
+    log = os.path.join(ROOT, "examples", "server.log")
+    query = 'filter contains "disk_full" | select field 1 | take 10'
+    with open(os.path.join(ROOT, "README.md"), encoding="utf-8") as file:
+        tests.check("README.md has its example", f"./plinq lines '{query}' examples/server.log" in file.read())
+    seen = run(["lines", query, log])
+    tests.check("README.md's example prints what stands there", seen == Outcome(0, b"2026-12-01T08:00:05\n2026-12-01T08:01:15\n", b""), str(seen))
+    rows = [re.fullmatch(r"\| (.*?) \| `(.*?)` \| `(.*?)` \|", row) for row in page.splitlines()[1:]]
+    tests.check("the table of lines has its rows", len(rows) >= 20 and all(rows), page)
+    for row in filter(None, rows):
+        name, query, command = (it.replace("\\|", "|") for it in row.groups())
+        theirs = subprocess.run(["bash", "-c", f"{command} {log!r}"], capture_output=True, env=os.environ | {"LC_ALL": "C"}, timeout=HANGS)
+        seen = run(["lines", query, log])
+        tests.check(f"the lines {name}", seen == Outcome(0, theirs.stdout, b"") and theirs.stdout != b"" and theirs.stderr == b"", f"{seen}; wanted {theirs}")
+
+
 def main():
     build()
     tests = Tests()
@@ -384,6 +403,7 @@ def main():
     take_ends(tests)
     mistakes(tests)
     beside_others(tests)
+    of_examples(tests)
     with tempfile.TemporaryDirectory() as folder:
         files(tests, folder)
         streams(tests, folder)
