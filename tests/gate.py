@@ -238,6 +238,19 @@ def side_by_side(place, tests):
         tests.check(f"five tests by {processors} processors", is_so, (started.returncode, seen, output, errors))
         for name in names:
             os.remove(f"{place.top}/go-{name}")
+    # (bash 5.2 may have forgotten a test that ended while another one was waited for)
+    forgets = """
+wait() {
+    [ "$1" != -n ] || [ "$((forgets = ${forgets:-0} + 1))" -gt FIRST ] || { builtin wait "${@:4}"; unset "$3"; return 127; }
+    builtin wait "$@"
+}
+"""
+    for first in (1, 2, 5):
+        place.write("forgets", forgets.replace("FIRST", str(first)))
+        place.tell(COUNTED, one=PASSES, two="print('1 passed, 1 failed'); exit(1)", three=PASSES)
+        ran = subprocess.run(["./test"], cwd=place.top, env=place.env() | {"BASH_ENV": "forgets"}, capture_output=True, text=True, timeout=HANGS)
+        is_so = (ran.returncode, ran.stdout.splitlines()[-1]) == (1, "10 passed, 1 failed")
+        tests.check(f"a test's end that bash forgot the first {first} times", is_so, ran)
     place.tell(COUNTED, one=MINDS, two=MINDS)
     status, output, errors = place.run()
     tests.check("a test can be interrupted by its own signals", (status, output.splitlines()[-1]) == (0, "9 passed, 0 failed"), (output, errors))
