@@ -73,7 +73,7 @@ elif [ "$1" = try ]; then
 else
     if [ -e "$top/orders/fail-$name" ]; then echo 'error: some cause'; exit 4; fi
     mkdir -p out
-    { echo '#!/usr/bin/env bash'; echo "echo \"words: \$*; built of: $(cat "$top"/crates/*/src/* | tr '\n' ' ')\""; echo cat; echo 'exit 3'; } >out/plinq.new
+    { echo '#!/usr/bin/env bash'; echo '[ "${1-}" != folder ] || echo "$PWD"'; echo "echo \"words: \$*; built of: $(cat "$top"/crates/*/src/* | tr '\n' ' ')\""; echo cat; echo 'exit 3'; } >out/plinq.new
     chmod +x out/plinq.new
     mv out/plinq.new out/plinq
 fi
@@ -551,6 +551,12 @@ def changes(place, tests):
     rebuilds("a source of an old date came")
     place.write("crates.txt", "side:\nlow: thiserror\nmid: low thiserror\nplinq: mid side\n")
     rebuilds("the list of crates changed")
+    place.write("crates/low/src/lib.rt", "lower\n")
+    for name in ("that was built anew", "that is up to date"):
+        status, output, errors, calls = place.run("-c", f"cd {place.temporary} && {place.top}/plinq folder", program="bash", stdin=subprocess.DEVNULL)
+        tests.check(f"a program {name} runs in the caller's folder", output.startswith(f"{place.temporary}\n") and bool(calls) == ("anew" in name), (output, errors, calls))
+    place.write("crates/low/src/lib.rt", "low\n")
+    rebuilds("a source was put back")
     os.remove(f"{place.top}/crates/plinq/out/plinq")
     tests.check("where the program went, a trial answers", place.run()[3] == ["plinq_trial try --"])
     tests.check("and it is built again", place.run("--build")[3] == ALL_CALLS)
