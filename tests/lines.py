@@ -5,9 +5,10 @@
 
 Random texts and queries by 1, 2, 4 and 64 workers, from files, from standard input, and from a pipe that is written in pieces of
 random sizes. Lines that end at, before and after the end of a block or of a read; bytes that are no characters; carriage returns;
-several files; a line of 128 MB in linear time; readers that leave, a full disk, memory that is short; mistakes in words and
-queries.
+several files; a line of 128 MB and a large pattern through a pipe, in linear time; readers that leave, a full disk, memory that is
+short; mistakes in words and queries.
 """
+import collections
 import os
 import random
 import re
@@ -70,6 +71,20 @@ def field_of(text, number, separator):
     return fields[number - 1] if number <= len(fields) else b""
 
 
+def fields_of(text, numbers, separator):
+    """Several fields, with what stands between them, or a space for blanks; -3 is all from the third on."""
+    return (separator or b" ").join((field_of if number > 0 else from_field)(text, abs(number), separator) for number in numbers)
+
+
+def from_field(text, number, separator):
+    if separator is not None:
+        return separator.join(text.split(separator)[number - 1 :])
+    for _ in range(number - 1):
+        text = text.lstrip(BLANKS)
+        text = text[next((at for at, byte in enumerate(text) if byte in BLANKS), len(text)) :]
+    return text.lstrip(BLANKS)
+
+
 def passes(text, field, negated, kind, bytes_):
     """Whether a line's text passes a test, of it or of its field."""
     return TESTS[kind](text if field is None else field_of(text, *field), bytes_) != negated
@@ -82,15 +97,28 @@ def answer(steps, lines):
         if name == "filter":
             lines = [text + end for text, end in texts if passes(text, *values)]
         elif name == "select":
-            lines = [field_of(text, *values) + end for text, end in texts]
+            lines = [fields_of(text, *values) + end for text, end in texts]
         elif name in ("take_while", "skip_while"):
             count = next((at for at, (text, _) in enumerate(texts) if not passes(text, *values)), len(lines))
             lines = lines[:count] if name == "take_while" else lines[count:]
         elif name == "take":
             lines = lines[: values[0]]
+        elif name == "distinct":
+            keys = [text if values[0] in (None, "line") else fields_of(text, *values[0]) for text, _ in texts]
+            lines = [line for at, line in enumerate(lines) if keys.index(keys[at]) == at]
+        elif name == "count":
+            return counted([line.rstrip(b"\n") for line in lines], *values)
         else:
             lines = lines[values[0] :]
     return b"".join(lines)
+
+
+def counted(texts, key):
+    """What a count at the end of a query writes: how many texts there are, or how often each comes, or a field of it."""
+    if key is None:
+        return b"%d\n" % len(texts)
+    keys = texts if key == "line" else [fields_of(text, *key) for text in texts]
+    return b"".join(b"%d\t%s\n" % (count, text) for text, count in collections.Counter(keys).items())
 
 
 def quoted(bytes_):
@@ -107,30 +135,62 @@ def words_of(steps):
             subject, no = "" if field is None else words_of_field(*field) + " ", "not " * negated
             said.append(f"{name} {no + subject if len(said) % 2 else subject + no}{kind} {text}")
         elif name == "select":
-            said.append(f"select {words_of_field(*values)}")
+            numbers, separator = values
+            said.append(f"select {words_of_field(words_of_numbers(numbers), separator)}")
+        elif name in ("count", "distinct"):
+            said.append(words_of_key(name, *values))
         else:
             said.append(f"{name} {values[0]}")
     return " | ".join(said)
+
+
+def words_of_key(name, key):
+    if key is None or key == "line":
+        return name + (" by line" if key else "")
+    numbers, separator = key
+    return f"{name} by " + words_of_field(words_of_numbers(numbers), separator)
+
+
+def words_of_numbers(numbers):
+    """The numbers as a query has them: some parted by commas, and a row of them as a range."""
+    if len(numbers) == 3 and numbers[0] + 2 == numbers[1] + 1 == numbers[2]:
+        return f"{numbers[0]}-{numbers[2]}"
+    return (" " if numbers[0] % 2 else ",").join(str(it) if it > 0 else f"{-it}-" for it in numbers)
 
 
 def words_of_field(number, separator):
     return f"field {number}" + ("" if separator is None else f" by {quoted(separator)}")
 
 
-def some_field(by):
-    return by.randint(1, 4), by.choice((None, None, b"a", b"\t", b" "))
+def some_separator(by):
+    return by.choice((None, None, b"a", b"\t", b" "))
 
 
 def some_step(by):
-    name = by.choice(("filter", "filter", "select", "take", "skip", "take_while", "skip_while"))
+    name = by.choice(("filter", "filter", "select", "take", "skip", "take_while", "skip_while", "distinct"))
     if name in ("filter", "take_while", "skip_while"):
-        field = some_field(by) if by.random() < 0.3 else None
+        field = (by.randint(1, 4), some_separator(by)) if by.random() < 0.3 else None
         kind = by.choice(list(TESTS))
         bytes_ = by.choice(list(PATTERNS) if kind == "matches" else (b"", b"a", b"b c", b"ab", b"c", b"\t", b'"', b"\\", b"a\r"))
         return name, field, by.random() < 0.3, kind, bytes_
+    if name == "distinct":
+        return name, some_key(by)
     if name == "select":
-        return name, *some_field(by)
+        return name, some_numbers(by), some_separator(by)
     return name, by.choice((0, 1, 2, 5, 40, 2_000))
+
+
+def some_key(by):
+    return by.choice((None, "line", (some_numbers(by), some_separator(by))))
+
+
+def some_numbers(by):
+    numbers = [by.randint(1, 4) for _ in range(by.choice((1, 1, 2, 3)))]
+    return numbers[:-1] + [-numbers[-1]] if by.random() < 0.3 else numbers
+
+
+def some_count(by):
+    return "count", some_key(by)
 
 
 def some_text(by, size):
@@ -155,6 +215,8 @@ def by_random(tests):
     for turn in range(260):
         text = some_text(by, by.choice((0, 10, 300, 300, 5_000, 5_000, 700_000 if turn % 12 == 0 else 2_000)))
         steps = [some_step(by) for _ in range(by.randint(1, 4))]
+        if turn % 3 == 0:
+            steps = [*steps[1:], some_count(by)]
         wanted = Outcome(0, answer(steps, lines_of(text)), b"")
         seen = lines(words_of(steps), text, ["--workers", by.choice(WORKERS)])
         tests.check(f"random text {turn}: {words_of(steps)}", seen == wanted, f"{seen}; wanted {wanted}")
@@ -171,7 +233,7 @@ def at_edges(tests):
                 seen = lines(words_of(steps), text, ["--workers", workers])
                 tests.check(f"a line of {size + off} bytes by {workers}", seen == Outcome(0, answer(steps, lines_of(text)), b""), str(seen)[:200])
     text = b"".join(b"%d x\n" % it if it % 3 else b"%d\n" % it for it in range(1_500_000))
-    for given in (steps, [("skip_while", None, True, "contains", b"700000 x"), ("take_while", None, True, "is", b"1400000 x")], [("skip", 700_001), ("filter", None, False, "contains", b"x"), ("take", 400_000)], [("select", 1, None), ("skip", 1_499_999)], [("filter", (1, None), False, "matches", b"b+c")], [("filter", None, False, "matches", b"(?i)A\\r?$"), ("take", 3)]):
+    for given in (steps, [("skip_while", None, True, "contains", b"700000 x"), ("take_while", None, True, "is", b"1400000 x")], [("skip", 700_001), ("filter", None, False, "contains", b"x"), ("take", 400_000)], [("select", [1], None), ("skip", 1_499_999)], [("select", [2, 1], None), ("filter", None, False, "starts_with", b"x 1")], [("skip_while", None, True, "is", b"700000 x"), ("select", [1, 2, 1], None), ("take", 500_000)], [("count", None)], [("filter", None, False, "contains", b"x"), ("skip", 1_000), ("count", None)], [("count", ([2], None))], [("select", [2], None), ("take", 900_000), ("count", "line")], [("filter", None, False, "contains", b"x"), ("take", 4_000), ("distinct", ([2, 1], None)), ("skip", 10)], [("filter", (1, None), False, "matches", b"b+c")], [("filter", None, False, "matches", b"(?i)A\\r?$"), ("take", 3)]):
         for workers in ("1", "2", "64"):
             seen = lines(words_of(given), text, ["--workers", workers])
             tests.check(f"{words_of(given)} of 14 MB by {workers}", seen == Outcome(0, answer(given, lines_of(text)), b""), str(seen)[:200])
@@ -182,7 +244,7 @@ def by_pieces(tests):
     by = random.Random(83)
     for turn in range(12):
         text = some_text(by, 60_000)
-        steps = [some_step(by) for _ in range(2)]
+        steps = [some_step(by), some_count(by) if turn % 3 == 0 else some_step(by)]
         child = subprocess.Popen([PLINQ, "lines", words_of(steps)], stdin=subprocess.PIPE, stdout=subprocess.PIPE, stderr=subprocess.PIPE)
 
         def write():
@@ -244,10 +306,18 @@ def files(tests, folder):
     tests.check("counts go on", run(["lines", "skip 1 | take 2", first, second]) == Outcome(0, b"2 b\n3 c\r\n", b""))
     tests.check("standard input among files", run(["lines", "skip 0", first, "-", second], b"0") == Outcome(0, b"1 a\n2 b\n0\n3 c\r\n4", b""))
     tests.check("a file of a name with a blank", run(["lines", "take 1", made("a b", b"x\n")]) == Outcome(0, b"x\n", b""))
+    tests.check("a count goes on", run(["lines", "count", first, none, second]) == Outcome(0, b"4\n", b""))
+    tests.check("counts of texts go on", run(["lines", "count by field 3", first, first, none, second]) == Outcome(0, b"6\t\n", b""))
+    tests.check("counts of fields go on", run(["lines", "count by field 2", first, first, second]) == Outcome(0, b"2\ta\n2\tb\n1\tc\n1\t\n", b""))
+    tests.check("a distinct goes on", run(["lines", "distinct", first, second, first]) == Outcome(0, b"1 a\n2 b\n3 c\r\n4\n", b""))
+    tests.check("a count of what is left", run(["lines", "skip 1 | take 2 | count", first, second]) == Outcome(0, b"2\n", b""))
+    tests.check("a count of nothing", run(["lines", "count", none]) == Outcome(0, b"0\n", b"") and run(["lines", "count by line", none]) == Outcome(0, b"", b""))
     missing = os.path.join(folder, "missing")
     seen = run(["lines", "skip 0", first, missing, second])
     said = f"plinq: {missing}: No such file or directory (os error 2)\n".encode()
     tests.check("a file that isn't there, after those before it", seen == Outcome(5, b"1 a\n2 b\n", said), str(seen))
+    seen = run(["lines", "count", first, missing, second])
+    tests.check("no count if a file isn't there", seen == Outcome(5, b"", said), str(seen))
     tests.check("a folder", run(["lines", "skip 0", folder]) == Outcome(5, b"", f"plinq: {folder}: Is a directory (os error 21)\n".encode()))
     tests.check("no input", run(["lines", "skip 0"], stdin=subprocess.DEVNULL) == Outcome(0, b"", b""))
 
@@ -255,13 +325,14 @@ def files(tests, folder):
 def mistakes(tests):
     end = "\n\nFor more information, try '--help'.\n"
     wants_a_test = "step 1 wants contains, starts_with, ends_with, is or matches, with or without not before it"
+    wants_a_byte = 'step 1: by wants a text of one byte that isn\'t a line feed, as by "," or by "\\t"'
     wants_a_number = "step 1: field wants a number from 1 on, as in select field 2"
     for query, said in (
         ("", "step 1 is empty"),
         ("take 1 |", "step 2 is empty"),
         ("| take 1", "step 1 is empty"),
-        ("find x", "step 1 is none of filter, select, take, skip, take_while and skip_while"),
-        ('take 1 | "filter" is x', "step 2 is none of filter, select, take, skip, take_while and skip_while"),
+        ("find x", "step 1 is none of filter, select, take, skip, take_while, skip_while, distinct and count"),
+        ('take 1 | "filter" is x', "step 2 is none of filter, select, take, skip, take_while, skip_while, distinct and count"),
         ("filter", wants_a_test),
         ("filter not", wants_a_test),
         ("filter finds x", wants_a_test),
@@ -271,7 +342,7 @@ def mistakes(tests):
         ('filter field 2 by "," x', wants_a_test),
         ("filter field is x", wants_a_number),
         ("filter field 0 is x", wants_a_number),
-        ("filter field 2 by ab is x", 'step 1: by wants a text of one byte, as by "," or by "\\t"'),
+        ("filter field 2 by ab is x", wants_a_byte),
         ("filter matches", 'step 1: a text is missing, as in contains "disk full"'),
         ("take 1 | filter matches a(b", "step 2: the pattern is wrong: regex parse error at 1..2: unclosed group"),
         ('filter matches "x{2"', "step 1: the pattern is wrong: regex parse error at 1..3: unclosed counted repetition"),
@@ -281,13 +352,39 @@ def mistakes(tests):
         ("select field", wants_a_number),
         ("select field 0", wants_a_number),
         ("select 2", wants_a_number),
-        ('select field 2 by ", "', 'step 1: by wants a text of one byte, as by "," or by "\\t"'),
-        ("select field 2 by", 'step 1: by wants a text of one byte, as by "," or by "\\t"'),
+        ('select field 2 by ", "', wants_a_byte),
+        ("select field 2 by", wants_a_byte),
+        ('select field 2 by "\n"', wants_a_byte),
+        ("select field 2 0", wants_a_number),
+        ("select field 2 3 0x", wants_a_number),
+        ("select field 0-", wants_a_number),
+        ("select field 2 0-", wants_a_number),
+        ("select field x-", wants_a_number),
+        ("select field 2- 4", wants_a_number),
+        ("select field 1,,3", wants_a_number),
+        ("select field 1,3-5-7", wants_a_number),
+        ("select field -3", wants_a_number),
+        ("select field 4-2", "step 1: a range of fields has its first one first, and at most 1,000"),
+        ("select field 2-1002", "step 1: a range of fields has its first one first, and at most 1,000"),
+        ("filter field 2-4 is x", wants_a_number),
+        ("select field 2 field 3", "step 1 goes on after its end: a bar parts two steps"),
+        ("filter field 2 3 is x", wants_a_test),
         ("select field 2 between x", "step 1 goes on after its end: a bar parts two steps"),
         ("take", "step 1: take and skip want a number of lines"),
         ("skip -1", "step 1: take and skip want a number of lines"),
         ("take 18446744073709551616", "step 1: take and skip want a number of lines"),
         ("take 1 2", "step 1 goes on after its end: a bar parts two steps"),
+        ("count x", "step 1 goes on after its end: a bar parts two steps"),
+        ("count by", "step 1: by wants line or a field, as in count by field 2"),
+        ("count by x", "step 1: by wants line or a field, as in count by field 2"),
+        ('count by "line"', "step 1: by wants line or a field, as in count by field 2"),
+        ("distinct by", "step 1: by wants line or a field, as in count by field 2"),
+        ("distinct field 2", "step 1 goes on after its end: a bar parts two steps"),
+        ("distinct by field 0", wants_a_number),
+        ("take 3 | count by field", wants_a_number.replace("step 1", "step 2")),
+        ("count by line 2", "step 1 goes on after its end: a bar parts two steps"),
+        ("count | take 1", "step 2 follows a count, which is the last step of a query"),
+        ("count by line | count", "step 2 follows a count, which is the last step of a query"),
         ('filter contains "x', "a text has no closing quote"),
         ('filter contains "x\\', "a text has no closing quote"),
         ('filter contains "\\x"', 'a backslash in a text stands before ", \\, t or r'),
@@ -306,6 +403,8 @@ def streams(tests, folder):
     text = b"a x\n" * 300_000
     with open("/dev/full", "wb") as full:
         seen = lines("skip 1", text, stdout=full)
+        counted = lines("count by line", text, stdout=full)
+    tests.check("a count on a full disk", (counted.status, counted.errors) == (5, b"plinq: write failed: No space left on device (os error 28)\n"), counted.errors)
     tests.check("a full disk", (seen.status, seen.errors) == (5, b"plinq: write failed: No space left on device (os error 28)\n"), seen.errors)
     child = subprocess.Popen([PLINQ, "lines", "skip 1"], stdin=subprocess.PIPE, stdout=subprocess.PIPE, stderr=subprocess.PIPE)
     child.stdout.close()
@@ -324,6 +423,10 @@ def streams(tests, folder):
     limited = ["bash", "-c", "ulimit -t 20; exec \"$0\" lines --workers 1 'filter not contains x'", PLINQ]
     seen = subprocess.run(limited, input=b"x" * 128_000_000, capture_output=True, timeout=HANGS)
     tests.check("a line of 128 MB in linear time", (seen.returncode, seen.stdout, seen.stderr) == (0, b"", b""), str(seen)[-200:])
+    # (If each read compiled this pattern, that alone would take 20 seconds of processor time.)
+    limited = ["bash", "-c", "ulimit -t 10; exec \"$0\" lines 'filter matches \"(\\w{1,40} ){10}x\"'", PLINQ]
+    seen = subprocess.run(limited, input=(b"-" * 999 + b"\n") * 128_000, capture_output=True, timeout=HANGS)
+    tests.check("a large pattern through a pipe", (seen.returncode, seen.stdout, seen.stderr) == (0, b"", b""), str(seen)[-200:])
 
 
 def feed(child, text):
@@ -357,10 +460,17 @@ def beside_others(tests):
         ("filter starts_with \"- \"", ["grep", "^- "]),
         ("filter is \"\"", ["grep", "-x", ""]),
         ("select field 2 by \"`\"", ["cut", "-d", "`", "-f", "2"]),
+        ("select field 4 1 3", ["awk", "{ print $4, $1, $3 }"]),
+        ("select field 4,1-2,3", ["awk", "{ print $4, $1, $2, $3 }"]),
+        ("select field 2-1001", ["awk", "{ for (i = 2; i <= 1001; i++) printf \"%s%s\", $i, i < 1001 ? \" \" : \"\\n\" }"]),
+        ("filter contains \"`\" | select field 2- by \"`\"", ["sed", "-n", "s/^[^`]*`//p"]),
         ("take 7", ["head", "-n", "7"]),
         ("skip 7", ["tail", "-n", "+8"]),
         ("filter matches \"[0-9]+ [a-z]+[,.]\"", ["grep", "-E", "[0-9]+ [a-z]+[,.]"]),
         ("filter not matches ^-", ["grep", "-v", "-E", "^-"]),
+        ("filter contains plinq | count", ["grep", "-c", "-F", "plinq"]),
+        ("distinct by field 1 2", ["awk", "!n[$1 \" \" $2]++"]),
+        ("count by field 1", ["awk", "{ if (!($1 in n)) key[++m] = $1; n[$1]++ } END { for (i = 1; i <= m; i++) print n[key[i]] \"\\t\" key[i] }"]),
         ("filter field 1 is -", ["awk", '$1 == "-"']),
         ("filter field 3 by \"`\" not contains plinq", ["awk", "-F", "`", "!index($3, \"plinq\")"]),
     ):
@@ -385,7 +495,7 @@ def of_examples(tests):
     seen = run(["lines", query, log])
     tests.check("README.md's example prints what stands there", seen == Outcome(0, b"2026-12-01T08:00:05\n2026-12-01T08:01:15\n", b""), str(seen))
     rows = [re.fullmatch(r"\| (.*?) \| `(.*?)` \| `(.*?)` \|", row) for row in page.splitlines()[1:]]
-    tests.check("the table of lines has its rows", len(rows) >= 20 and all(rows), page)
+    tests.check("the table of lines has its rows", len(rows) >= 28 and all(rows), page)
     for row in filter(None, rows):
         name, query, command = (it.replace("\\|", "|") for it in row.groups())
         theirs = subprocess.run(["bash", "-c", f"{command} {log!r}"], capture_output=True, env=os.environ | {"LC_ALL": "C"}, timeout=HANGS)

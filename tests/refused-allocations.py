@@ -62,7 +62,7 @@ DONE_WITHOUT = 1
 # Lines in one block, and in three, of which each is longer than a block has to be.
 FEW_LINES = b"a x\nb\nc x y\n"
 MANY_LINES = b"".join(b"%d x y\n" % it * 30 for it in range(3_000))
-OF_LINES = ("filter contains x | select field 2", 'skip 1 | filter not is "b"', "take 2", "take_while contains x", 'filter field 2 matches "^[xy]"', "skip 1 | filter not matches b | take 2")
+OF_LINES = ("filter contains x | select field 2", 'skip 1 | filter not is "b"', "take 2", "take_while contains x", 'filter field 2 matches "^[xy]"', "skip 1 | filter not matches b | take 2", "select field 2 1-", "count", "filter contains x | count by field 2 1", "skip 1 | count by line", "distinct by field 2 1 | take 1")
 CASES = (
     [(words, it) for it in ANSWERED for words in (["run", "--workers", "2", "--merge", "not"], ["run", "--workers", "1"], ["run", "--workers", "8"], ["seq"], ["plan", "--workers", "2"], ["parts"], ["history", "--workers", "2"])]
     + [(["run", "--workers", workers, "--merge", "not"], SEVENTEEN) for workers in ("1", "2")]

@@ -83,8 +83,13 @@ def main():
     # (the words of `lines` are its own, and so are its help and its section)
     about_lines = run(["lines", "--help"]).output.decode()
     every = commands | {"lines": about_lines.partition("\n")[0]}
-    for step, about in re.findall(r"^  (filter|select|take|skip|take_while|skip_while) .*?   (.*)$", about_lines, re.M):
-        tests.check(f"the man page has the step {step} of lines", f"{about}\n" in sections["LINES"] and f"\\fB{step}" in sections["LINES"], sections["LINES"])
+    steps = re.findall(r"^  (\S.*?)(?:   (.*))?\n((?:           .*\n)*)", about_lines.partition("parted by bars:\n")[2].partition("A TEXT stands")[0], re.M)
+    names = [words.split()[0] for words, _, _ in steps]
+    tests.check("help has the steps of lines", names == "filter select take skip take_while skip_while distinct count count".split(), steps)
+    plain = re.sub(r"\\f[BIR]", "", sections["LINES"])
+    for words, about, more in steps:
+        told = " ".join(f"{words} {about} {more}".split())
+        tests.check(f"the man page has {words} of lines as help does", f".TP\n{told}\n" in plain, plain)
     tests.check("bash completes the commands", completed("plinq", "") == [*every, "--help", "--version"], completed("plinq", ""))
     tests.check("bash completes the options of lines", completed("plinq", "lines", "--") == ["--workers", "--help"], completed("plinq", "lines", "--"))
     tests.check("bash completes the options", set(completed("plinq", "run", "--")) == set(options), completed("plinq", "run", "--"))

@@ -6,7 +6,7 @@ ROOT = os.path.dirname(os.path.dirname(os.path.dirname(os.path.realpath(__file__
 CRATES = os.path.join(ROOT, "crates")
 
 # What the language itself means: no import gives it.
-LANGUAGE = set("Type where record abbrev unfoldable pub data module let in if then else absurd tt _ ⊥ Unit → : = × λ ← 0 1".split())
+LANGUAGE = set("Type where record abbrev unfoldable pub data module let in if then else absurd tt _ ⊥ ∥ ∥₁ Unit → : = × λ ← 0 1".split())
 # Names that a clause may use of any function, and the methods' own.
 CLAUSE = set("result self old new now field 𝓛".split())
 # Traits that Rust has without an import, and where they stand.

@@ -1,3 +1,4 @@
 mod BlockLaws
 mod PassLaws
 mod Streaming
+mod TallyingLaws

@@ -47,19 +47,19 @@ ends-at Thread other start now text p = p
 ends-at Incomplete other start now text p = p
 
 -- the reader's bytes, of which these were read
-its-bytes : (told left_told : Bytes) (read : List ℕ) → Consumes told left_told read → (more : List ℕ) × AreItsBytes told (read ++ more)
+pub its-bytes : (told left_told : Bytes) (read : List ℕ) → Consumes told left_told read → (more : List ℕ) × AreItsBytes told (read ++ more)
 its-bytes None left_told read is = ([], tt)
 its-bytes (Some t) None read is = absurd is
 its-bytes (Some t) (Some l) read is = (l, is)
 
 -- a reader that is at its end gave all that it had
-all-read : (told left_told : Bytes) (read : List ℕ) → Consumes told left_told read → IsAtEnd left_told → AreItsBytes told read
+pub all-read : (told left_told : Bytes) (read : List ℕ) → Consumes told left_told read → IsAtEnd left_told → AreItsBytes told read
 all-read None left_told read is end = tt
 all-read (Some t) None read is end = absurd is
 all-read (Some t) (Some l) read is end = is ∙ ap (λ x. read ++ x) end ∙ append-nil read
 
 -- what is left of steps that are over, after whatever lines
-over-left : (steps : List LineStep) → is_over steps ≡ true → (ms ls : List Line) → answer (left steps ms) ls ≡ []
+pub over-left : (steps : List LineStep) → is_over steps ≡ true → (ms ls : List Line) → answer (left steps ms) ls ≡ []
 over-left steps over ms ls =
     sym (ap (λ xs. xs ++ answer (left steps ms) ls) (answer-over steps over ms)) ∙ sym (answer-append steps ms ls) ∙ answer-over steps over (ms ++ ls)
 

@@ -1,2 +1,3 @@
 pub mod inner
 pub mod Streams
+pub mod Tallying

@@ -1,6 +1,7 @@
 ghost use Rattle.std.specs.Prelude.{◌≡◌, ◌≢◌, ◌≤◌, ◌<◌, ◌+◌, ◌++◌, true, [], List, ℕ, IfOk, IfErr, length, take, drop, vec_len};
 ghost use Rattle.std.specs.Io.KnownBytes.{Consumes, IsAtEnd};
 ghost use Rattle.plinq_rounds.specs.declared.lines_fault.LinesFault.TheVariants.{Write};
+ghost use Rattle.plinq_rounds.specs.Tallying.{ended};
 ghost use Rattle.plinq_text.specs.Lines.{is_whole};
 
 use crate::lines_fault::LinesFault;
@@ -90,6 +91,19 @@ impl ReadBuffer {
         }
     }
 
+    /// Gives a last line its line feed if it has none.
+    pub(crate) fn end_line(&mut self) -> Result<(), LinesFault>
+        ensures { IfOk result (λ _. self.new ≡ ended self.old) }
+    {
+        if ends_whole(self.as_slice()) {
+            return Ok(());
+        }
+        make_room(&mut self.bytes, self.count, self.first_room)?;
+        self.bytes[self.count] = b'\n';
+        self.count += 1;
+        Ok(())
+    }
+
     /// Leaves out so many first bytes.
     pub(crate) fn drop_front(&mut self, count: usize)
         requires { count ≤ length self.old }
@@ -99,6 +113,16 @@ impl ReadBuffer {
             self.bytes.copy_within(count..self.count, 0);
             self.count -= count;
         }
+    }
+}
+
+/// Whether a text's lines are whole.
+fn ends_whole(text: &[u8]) -> bool
+    ensures { result ≡ is_whole text.now }
+{
+    match text.split_last() {
+        Some((last, _)) => *last == b'\n',
+        None => true,
     }
 }
 

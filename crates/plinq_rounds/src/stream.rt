@@ -1,15 +1,15 @@
-ghost use Rattle.std.specs.Prelude.{◌≡◌, true, IfErr};
+ghost use Rattle.std.specs.Prelude.{◌≡◌, true, IfOk, IfErr};
 ghost use Rattle.std.specs.Io.KnownBytes.{Keeps};
 ghost use Rattle.plinq_rounds.specs.Streams.{AnswersLines, Passes};
 ghost use Rattle.plinq_rounds.specs.declared.lines_fault.LinesFault.TheVariants.{Write};
 ghost use Rattle.plinq_text.specs.Lines.{is_whole, lines_of};
+ghost use Rattle.plinq_text.specs.StepPatterns.{ArePatternsOf};
 
 use crate::lines_fault::LinesFault;
 use crate::read_buffer::ReadBuffer;
-use crate::round::answer_round;
-use plinq_lines::write_bytes;
+use crate::round::{answer_here, answer_round};
 use plinq_settings::Degree;
-use plinq_text::{LineStep, is_over, pass_lines};
+use plinq_text::{LineStep, Pattern, is_over, patterns};
 use std::alloc::Global;
 use std::io::{Read, Write};
 use std::sync::Wait;
@@ -42,6 +42,9 @@ where
     ensures { AnswersLines steps.old (I.remaining reader.old) (W.contents out.old) (W.contents out.new) result steps.new }
 {
     buffer.clear();
+    let Ok(patterns) = patterns(alloc, steps) else {
+        return Err(LinesFault::Memory);
+    };
     for _ in 0..u64::MAX {
         if is_over(steps) {
             return Ok(());
@@ -51,10 +54,18 @@ where
             Err(fault) => return Err(fault),
         };
         if count == 0 {
-            return answer_last(alloc, steps, buffer.as_slice(), out);
+            return answer_last(alloc, steps, patterns.as_slice(), buffer.as_slice(), out);
         }
         let whole = buffer.whole_lines(count);
-        match answer_whole(rt, alloc, workers, steps, buffer.front(whole), out) {
+        match answer_whole(
+            rt,
+            alloc,
+            workers,
+            steps,
+            patterns.as_slice(),
+            buffer.front(whole),
+            out,
+        ) {
             Ok(()) => buffer.drop_front(whole),
             Err(fault) => return Err(fault),
         }
@@ -68,20 +79,23 @@ fn answer_whole<R, W>(
     alloc: Global,
     workers: Degree,
     steps: &mut [LineStep],
+    patterns: &[Pattern],
     text: &[u8],
     out: &mut W,
 ) -> Result<(), LinesFault>
 where
     R: Clock + Threads + Wait + Sync,
     W: Write,
-    requires { is_whole text.now ≡ true }
-    ensures { Passes steps.old (lines_of text.now) (W.contents out.old) (W.contents out.new) result steps.new }
+    requires patterns { ArePatternsOf steps.old patterns.now }
+    requires whole { is_whole text.now ≡ true }
+    ensures passes { Passes steps.old (lines_of text.now) (W.contents out.old) (W.contents out.new) result steps.new }
+    ensures kept { IfOk result (λ _. ArePatternsOf steps.new patterns.now) }
 {
-    answer_round(rt, alloc, workers, steps, text, out)?;
+    answer_round(rt, alloc, workers, steps, patterns, text, out)?;
     flush(out)
 }
 
-fn flush<W: Write>(out: &mut W) -> Result<(), LinesFault>
+pub(crate) fn flush<W: Write>(out: &mut W) -> Result<(), LinesFault>
     ensures kept { Keeps (W.contents out.old) (W.contents out.new) }
     ensures fault { IfErr result (λ fault. fault ≡ Write) }
 {
@@ -95,13 +109,13 @@ fn flush<W: Write>(out: &mut W) -> Result<(), LinesFault>
 fn answer_last<W: Write>(
     alloc: Global,
     steps: &mut [LineStep],
+    patterns: &[Pattern],
     text: &[u8],
     out: &mut W,
 ) -> Result<(), LinesFault>
+    requires { ArePatternsOf steps.old patterns.now }
     ensures { Passes steps.old (lines_of text.now) (W.contents out.old) (W.contents out.new) result steps.new }
 {
-    let mut passed = Vec::new(alloc);
-    pass_lines(alloc, steps, text, &mut passed)?;
-    write_bytes(out, passed.as_slice())?;
+    answer_here(alloc, steps, patterns, text, out)?;
     flush(out)
 }

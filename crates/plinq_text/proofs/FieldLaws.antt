@@ -1,16 +1,17 @@
 -- Fields have no byte that their text has not.
-use Rattle.std.proofs.Common.{◌≡◌, ℕ, zero, suc, ◌+◌, ◌==◌, Bool, true, false, not, List, [], ◌∷◌, take, drop, refl, ap}
+use Rattle.std.proofs.Common.{◌≡◌, ℕ, zero, suc, ◌+◌, ◌==◌, Bool, true, false, not, if◌then◌else◌, List, [], ◌∷◌, ◌++◌, take, drop, refl, ap}
+use Rattle.std.specs.Prelude.{⊤}
 use Rattle.std.specs.List.{prefix_len}
-use Rattle.std.proofs.Common.{Some, None, length, arith, le_refl}
-use Rattle.std.proofs.Math.Seq.{take-nil}
+use Rattle.std.proofs.Common.{Option, Some, None, length, arith, le_refl}
 use Rattle.std.proofs.lemmas.List.Sums.{prefix_len_is}
 use Rattle.memchr.specs.Find.{IsFirstByte, is_byte}
 use Rattle.std.proofs.lemmas.Bool.{and_parts, and_from}
-use Rattle.plinq_text.specs.declared.line_step.Field.{Field}
+use Rattle.plinq_text.specs.declared.line_step.Fields.{Fields}
 use Rattle.plinq_text.specs.declared.line_step.Separator.{Separator}
 use Rattle.plinq_text.specs.declared.line_step.Separator.TheVariants.{Blanks, Byte}
-use Rattle.plinq_text.specs.Fields.{is_blank, place_of, column, after_blanks, word, field_of}
-use Rattle.plinq_text.specs.Lines.{is_text}
+use Rattle.plinq_text.specs.Fields.{is_blank, place_of, column, after_blanks, word, field_between, fields, fields_of, from_column}
+use Rattle.plinq_text.specs.Fields.{from_field, from_word, further, glue, joined, rest}
+use Rattle.plinq_text.specs.Lines.{is_text, line_feed}
 
 is_text-take : (n : ℕ) (text : List ℕ) → is_text text ≡ true → is_text (take n text) ≡ true
 is_text-take zero text is = refl
@@ -33,23 +34,79 @@ is_text-word zero text is = is_text-take (place_of is_blank (after_blanks text))
 is_text-word (suc n) text is =
     is_text-word n _ (is_text-drop (place_of is_blank (after_blanks text)) (after_blanks text) (is_text-drop (prefix_len is_blank text) text is))
 
-pub is_text-field : (f : Field) (text : List ℕ) → is_text text ≡ true → is_text (field_of f text) ≡ true
-is_text-field f text is = by f.separator
+is_text-between : (s : Separator) (n : ℕ) (text : List ℕ) → is_text text ≡ true → is_text (field_between s n text) ≡ true
+is_text-between Blanks n text is = is_text-word n text is
+is_text-between (Byte byte) n text is = is_text-column byte n text is
+
+is_text-append : (a b : List ℕ) → is_text a ≡ true → is_text b ≡ true → is_text (a ++ b) ≡ true
+is_text-append [] b is others = others
+is_text-append (x ∷ a) b is others = let parts = and_parts _ _ is in and_from _ _ parts.0 (is_text-append a b parts.1 others)
+
+-- no line feed stands between fields
+no-feed : (s : Separator) → not (glue s == line_feed) ≡ true
+no-feed Blanks = refl
+no-feed (Byte byte) = by (byte == 10) refl
   where
-    by : (s : Separator) → is_text (field_of (record { index = f.index; separator = s }) text) ≡ true
-    by Blanks = is_text-word f.index text is
-    by (Byte byte) = is_text-column byte f.index text is
+    by : (is : Bool) → (byte == 10) ≡ is → not ((if is then 32 else byte) == line_feed) ≡ true
+    by true same = refl
+    by false other = ap not other
 
--- an empty text has empty fields alone
-pub column-nil : (byte n : ℕ) → column byte n [] ≡ []
-unfolding column
-column-nil byte zero = take-nil 0
-column-nil byte (suc n) = column-nil byte n
+-- none of these texts has a line feed
+abbrev AreTexts : List (List ℕ) → Type 0
+AreTexts [] = ⊤
+AreTexts (t ∷ ts) = (is_text t ≡ true) × AreTexts ts
 
-pub word-nil : (n : ℕ) → word n [] ≡ []
-unfolding word
-word-nil zero = refl
-word-nil (suc n) = word-nil n
+texts-append : (ts us : List (List ℕ)) → AreTexts ts → AreTexts us → AreTexts (ts ++ us)
+texts-append [] us are others = others
+texts-append (t ∷ ts) us are others = (are.0, texts-append ts us are.1 others)
+
+is_text-further : (s : Separator) (ts : List (List ℕ)) → AreTexts ts → is_text (further s ts) ≡ true
+is_text-further s [] all = refl
+is_text-further s (t ∷ ts) all = and_from _ _ (no-feed s) (is_text-append t (further s ts) all.0 (is_text-further s ts all.1))
+
+is_text-joined : (s : Separator) (ts : List (List ℕ)) → AreTexts ts → is_text (joined s ts) ≡ true
+is_text-joined s [] all = refl
+is_text-joined s (t ∷ ts) all = is_text-append t (further s ts) all.0 (is_text-further s ts all.1)
+
+is_text-from_column : (byte n : ℕ) (text : List ℕ) → is_text text ≡ true → is_text (from_column byte n text) ≡ true
+unfolding from_column
+is_text-from_column byte zero text is = is
+is_text-from_column byte (suc n) text is = is_text-from_column byte n _ (is_text-drop (place_of (λ b. b == byte) text + 1) text is)
+
+is_text-from_word : (n : ℕ) (text : List ℕ) → is_text text ≡ true → is_text (from_word n text) ≡ true
+unfolding from_word
+is_text-from_word zero text is = is_text-drop (prefix_len is_blank text) text is
+is_text-from_word (suc n) text is =
+    is_text-from_word n _ (is_text-drop (place_of is_blank (after_blanks text)) (after_blanks text) (is_text-drop (prefix_len is_blank text) text is))
+
+is_text-from : (s : Separator) (n : ℕ) (text : List ℕ) → is_text text ≡ true → is_text (from_field s n text) ≡ true
+is_text-from Blanks n text is = is_text-from_word n text is
+is_text-from (Byte byte) n text is = is_text-from_column byte n text is
+
+texts-fields : (s : Separator) (ns text : List ℕ) → is_text text ≡ true → AreTexts (fields s ns text)
+texts-fields s [] text is = tt
+texts-fields s (n ∷ ns) text is = (is_text-between s n text is, texts-fields s ns text is)
+
+texts-rest : (s : Separator) (n : Option ℕ) (text : List ℕ) → is_text text ≡ true → AreTexts (rest s n text)
+texts-rest s None text is = tt
+texts-rest s (Some n) text is = (is_text-from s n text is, tt)
+
+pub is_text-fields : (f : Fields) (text : List ℕ) → is_text text ≡ true → is_text (fields_of f text) ≡ true
+is_text-fields f text is =
+    is_text-joined f.separator _
+    (texts-append (fields f.separator f.indexes.items text) (rest f.separator f.rest text) (texts-fields f.separator f.indexes.items text is)
+    (texts-rest f.separator f.rest text is))
+
+-- an empty text has nothing from any field on
+pub from_column-nil : (byte n : ℕ) → from_column byte n [] ≡ []
+unfolding from_column
+from_column-nil byte zero = refl
+from_column-nil byte (suc n) = from_column-nil byte n
+
+pub from_word-nil : (n : ℕ) → from_word n [] ≡ []
+unfolding from_word
+from_word-nil zero = refl
+from_word-nil (suc n) = from_word-nil n
 
 not-true : (b : Bool) → (b ≡ true → ⊥) → b ≡ false
 not-true true h = absurd (h refl)
@@ -68,18 +125,31 @@ place-missed byte text missed =
     (λ j l. ap not (not-true _ (missed j (omega arith) l)))
     (λ l. absurd (omega arith))
 
-pub column-zero : (byte : ℕ) (text : List ℕ) → column byte 0 text ≡ take (place_of (λ b. b == byte) text) text
-unfolding column
-column-zero byte text = refl
+pub from_column-zero : (byte : ℕ) (text : List ℕ) → from_column byte 0 text ≡ text
+unfolding from_column
+from_column-zero byte text = refl
 
-pub column-suc : (byte n : ℕ) (text : List ℕ) → column byte (suc n) text ≡ column byte n (drop (place_of (λ b. b == byte) text + 1) text)
-unfolding column
-column-suc byte n text = refl
+pub from_column-suc : (byte n : ℕ) (text : List ℕ)
+    → from_column byte (suc n) text ≡ from_column byte n (drop (place_of (λ b. b == byte) text + 1) text)
+unfolding from_column
+from_column-suc byte n text = refl
 
-pub word-zero : (text : List ℕ) → word 0 text ≡ take (place_of is_blank (after_blanks text)) (after_blanks text)
-unfolding word
-word-zero text = refl
+pub from_word-zero : (text : List ℕ) → from_word 0 text ≡ after_blanks text
+unfolding from_word
+from_word-zero text = refl
 
-pub word-suc : (n : ℕ) (text : List ℕ) → word (suc n) text ≡ word n (drop (place_of is_blank (after_blanks text)) (after_blanks text))
-unfolding word
-word-suc n text = refl
+pub from_word-suc : (n : ℕ) (text : List ℕ) → from_word (suc n) text ≡ from_word n (drop (place_of is_blank (after_blanks text)) (after_blanks text))
+unfolding from_word
+from_word-suc n text = refl
+
+-- a field is what stands first from it on
+pub column-from : (byte n : ℕ) (text : List ℕ)
+    → column byte n text ≡ take (place_of (λ b. b == byte) (from_column byte n text)) (from_column byte n text)
+unfolding column from_column
+column-from byte zero text = refl
+column-from byte (suc n) text = column-from byte n _
+
+pub word-from : (n : ℕ) (text : List ℕ) → word n text ≡ take (place_of is_blank (from_word n text)) (from_word n text)
+unfolding word from_word
+word-from zero text = refl
+word-from (suc n) text = word-from n _

@@ -1,5 +1,5 @@
 -- What a compiled pattern finds.
-use Rattle.std.proofs.Common.{◌≡◌, ℕ, zero, suc, ◌<◌, ◌≤◌, Bool, false, List, [], ◌∷◌, map, get_or, length, Option, Some, None, IfSome, is_some, chars}
+use Rattle.std.proofs.Common.{◌≡◌, ℕ, zero, suc, ◌<◌, ◌≤◌, Bool, false, List, [], ◌∷◌, get_or, length, Option, Some, None, IfSome, is_some, chars}
 use Rattle.std.proofs.Common.{IsSomeAnd, arith, refl, sym, ap, ap₂, ◌∙◌, subst}
 use Rattle.std.proofs.Math.Logic.{∥∥₁_elim, ∥∥₁_prop}
 use Rattle.std.proofs.Math.Nat.{mod-eq_of_lt, mod-lt}
@@ -17,10 +17,8 @@ use Rattle.regex_syntax.specs.Brackets.{Nested}
 use Rattle.regex_syntax.specs.Captures.{SameCaptures}
 use Rattle.regex_syntax.specs.Grammar.{Names, group_count, read}
 use Rattle.regex_syntax.specs.Verdict.{Reads}
-use Rattle.plinq_text.specs.declared.line_step.LineStep.{LineStep}
-use Rattle.plinq_text.specs.declared.line_step.LineStep.TheVariants.{Filter, Select, Take, Skip, TakeWhile, SkipWhile}
 use Rattle.plinq_text.specs.Patterns.{as_bytes, found_by, pattern_finds}
-use Rattle.plinq_text.specs.inner.Searchers.{AreSearchers, FindsAs, IsCompiled, pattern_of_step}
+use Rattle.plinq_text.specs.Compiled.{FindsAs, IsCompiled}
 
 all-below : (text : List ℕ) (k : ℕ) → get_or (as_bytes text) k 0 < 256
 all-below [] k = omega arith
@@ -68,14 +66,3 @@ says None o m found text is finds value small = tt
 says (Some p) o m found text is finds value small =
     ∥∥₁_elim finds (Coded-set coded_bool _ _) (λ f.
     value ∙ ap (λ t. is_some (find (matcher_pattern m) t 0)) (sym (as-they-are text small)) ∙ f m is p refl text)
-
--- the patterns of steps are what their searchers are to search for
-pub patterns-search : (ss : List LineStep) → AreSearchers ss (map pattern_of_step ss)
-unfolding AreSearchers
-patterns-search [] = tt
-patterns-search (Filter t ∷ ss) = (refl, patterns-search ss)
-patterns-search (Select f ∷ ss) = (tt, patterns-search ss)
-patterns-search (Take n ∷ ss) = (tt, patterns-search ss)
-patterns-search (Skip n ∷ ss) = (tt, patterns-search ss)
-patterns-search (TakeWhile t ∷ ss) = (refl, patterns-search ss)
-patterns-search (SkipWhile t ∷ ss) = (refl, patterns-search ss)

@@ -8,14 +8,16 @@ use Rattle.std.specs.Option.{option_and_then}
 use Rattle.std.proofs.Math.Seq.{take-nil, drop-nil}
 use Rattle.std.proofs.lemmas.Bool.{and_parts, and_from, eqb-true}
 use Rattle.plinq_text.specs.declared.line_step.LineStep.{LineStep}
-use Rattle.plinq_text.specs.declared.line_step.LineStep.TheVariants.{Filter, Select, Take, Skip, TakeWhile, SkipWhile}
-use Rattle.plinq_text.specs.Fields.{field_of}
+use Rattle.plinq_text.specs.declared.line_step.LineStep.TheVariants.{Filter, Select, Take, Skip, TakeWhile, SkipWhile, Distinct}
+use Rattle.plinq_text.specs.declared.line_step.Fields.{Fields}
+use Rattle.plinq_text.specs.Fields.{fields_of}
 use Rattle.plinq_text.specs.Lines.{Line, AreFull, written}
 use Rattle.plinq_text.specs.declared.ready.ReadyStep.{ReadyStep}
 use Rattle.plinq_text.specs.inner.Ready.{does_ready, row_ready}
+use Rattle.plinq_text.specs.Steps.{distinct, has, key_of, with_text_seen}
 use Rattle.plinq_text.specs.Steps.{passes, with_text, apply, answer, does, after_one, later, row_does, row_after, left, made_line, made_lines}
 use Rattle.plinq_text.specs.Steps.{is_alone, are_alone, is_over, bytes_of}
-use Rattle.plinq_text.proofs.FieldLaws.{is_text-field}
+use Rattle.plinq_text.proofs.FieldLaws.{is_text-fields}
 
 kept-one : (b : Bool) (l : Line) (rest : List Line) → cond b (l ∷ rest) rest ≡ cons_option (option_map (with_text l) (cond b (Some l.text) None)) rest
 kept-one true l rest = refl
@@ -32,6 +34,21 @@ skipped-while true t l ls =
     let on : 1 + prefix_len (λ m. passes t m.text) ls ≡ suc (prefix_len (λ m. passes t m.text) ls) = omega arith in ap (λ n. drop n (l ∷ ls)) on
 skipped-while false t l ls = refl
 
+distinct-nil : (key : Option Fields) (seen : List (List ℕ)) → distinct key seen [] ≡ []
+unfolding distinct
+distinct-nil key seen = refl
+
+distinct-cons : (key : Option Fields) (seen : List (List ℕ)) (l : Line) (ls : List Line) → distinct key seen (l ∷ ls)
+    ≡ cons_option (option_map (with_text l) (cond (has seen (key_of key l.text)) None (Some l.text)))
+    (distinct key (with_text_seen seen (key_of key l.text)) ls)
+unfolding distinct
+distinct-cons key seen l ls = by (has seen (key_of key l.text))
+  where
+    by : (b : Bool) → cond b (distinct key seen ls) (l ∷ distinct key (seen ++ key_of key l.text ∷ []) ls)
+        ≡ cons_option (option_map (with_text l) (cond b None (Some l.text))) (distinct key (cond b seen (seen ++ key_of key l.text ∷ [])) ls)
+    by true = refl
+    by false = refl
+
 apply-cons : (s : LineStep) (l : Line) (ls : List Line) → apply s (l ∷ ls) ≡ cons_option (made_line (does s) l) (apply (after_one s l.text) ls)
 apply-cons (Filter t) l ls = kept-one (passes t l.text) l (filter (λ m. passes t m.text) ls)
 apply-cons (Select f) l ls = refl
@@ -41,6 +58,7 @@ apply-cons (Skip zero) l ls = refl
 apply-cons (Skip (suc n)) l ls = let on : n ≡ suc n - 1 = omega arith in ap (λ m. drop m ls) on
 apply-cons (TakeWhile t) l ls = take_while-cons (λ m. passes t m.text) l ls ∙ taken-while (passes t l.text) t l ls
 apply-cons (SkipWhile t) l ls = skipped-while (passes t l.text) t l ls
+apply-cons (Distinct k) l ls = distinct-cons k.key k.seen l ls
 
 apply-nil : (s : LineStep) → apply s [] ≡ []
 apply-nil (Filter t) = refl
@@ -49,6 +67,7 @@ apply-nil (Take n) = take-nil n
 apply-nil (Skip n) = drop-nil n
 apply-nil (TakeWhile t) = refl
 apply-nil (SkipWhile t) = refl
+apply-nil (Distinct k) = distinct-nil k.key k.seen
 
 pub answer-nil : (ss : List LineStep) → answer ss [] ≡ []
 unfolding answer
@@ -101,6 +120,7 @@ stays (Skip n) is text = let none : n ≡ 0 = eqb-true n 0 is in ap Skip (omega 
 stays (Take n) is text = absurd (cc)
 stays (TakeWhile t) is text = absurd (cc)
 stays (SkipWhile t) is text = absurd (cc)
+stays (Distinct k) is text = absurd (cc)
 
 -- of steps that look at each line alone all is left
 pub row_after-alone : (w : List LineStep) → are_alone w ≡ true → (text : List ℕ) → row_after w text ≡ w
@@ -175,10 +195,11 @@ answer-over (Take n ∷ ss) is ls = by (λ rest. answer-over ss rest (take n ls)
     by over true none is = let zero_is : n ≡ 0 = eqb-true n 0 none in ap (λ m. answer ss (take m ls)) zero_is ∙ answer-nil ss
     by over false none is = over is
 answer-over (Filter t ∷ ss) is ls = answer-over ss is (filter (λ l. passes t l.text) ls)
-answer-over (Select f ∷ ss) is ls = answer-over ss is (map (λ l. with_text l (field_of f l.text)) ls)
+answer-over (Select f ∷ ss) is ls = answer-over ss is (map (λ l. with_text l (fields_of f l.text)) ls)
 answer-over (Skip n ∷ ss) is ls = answer-over ss is (drop n ls)
 answer-over (TakeWhile t ∷ ss) is ls = answer-over ss is (take_while (λ l. passes t l.text) ls)
 answer-over (SkipWhile t ∷ ss) is ls = answer-over ss is (drop (prefix_len (λ l. passes t l.text) ls) ls)
+answer-over (Distinct k ∷ ss) is ls = answer-over ss is (distinct k.key k.seen ls)
 
 -- full lines stay full
 full-filter : (p : Line → Bool) (ls : List Line) → AreFull ls → AreFull (filter p ls)
@@ -190,10 +211,10 @@ full-filter p (l ∷ ls) full = by (p l) (full-filter p ls full.2)
     by true rest = (full.0, full.1, rest)
     by false rest = rest
 
-full-select : (f : _) (ls : List Line) → AreFull ls → AreFull (map (λ l. with_text l (field_of f l.text)) ls)
+full-select : (f : _) (ls : List Line) → AreFull ls → AreFull (map (λ l. with_text l (fields_of f l.text)) ls)
 unfolding AreFull
 full-select f [] full = tt
-full-select f (l ∷ ls) full = (is_text-field f l.text full.0, full.1, full-select f ls full.2)
+full-select f (l ∷ ls) full = (is_text-fields f l.text full.0, full.1, full-select f ls full.2)
 
 full-take : (n : ℕ) (ls : List Line) → AreFull ls → AreFull (take n ls)
 unfolding AreFull
@@ -207,6 +228,17 @@ full-drop zero ls full = full
 full-drop (suc n) [] full = tt
 full-drop (suc n) (l ∷ ls) full = full-drop n ls full.2
 
+full-distinct : (key : Option Fields) (seen : List (List ℕ)) (ls : List Line) → AreFull ls → AreFull (distinct key seen ls)
+unfolding AreFull distinct
+full-distinct key seen [] full = tt
+full-distinct key seen (l ∷ ls) full =
+    by (has seen (key_of key l.text)) (full-distinct key seen ls full.2) (full-distinct key (seen ++ key_of key l.text ∷ []) ls full.2)
+  where
+    by : (b : Bool) → AreFull (distinct key seen ls) → AreFull (distinct key (seen ++ key_of key l.text ∷ []) ls)
+        → AreFull (cond b (distinct key seen ls) (l ∷ distinct key (seen ++ key_of key l.text ∷ []) ls))
+    by true same more = same
+    by false same more = (full.0, full.1, more)
+
 pub full-answer : (ss : List LineStep) (ls : List Line) → AreFull ls → AreFull (answer ss ls)
 unfolding answer
 full-answer [] ls full = full
@@ -216,6 +248,7 @@ full-answer (Take n ∷ ss) ls full = full-answer ss _ (full-take n ls full)
 full-answer (Skip n ∷ ss) ls full = full-answer ss _ (full-drop n ls full)
 full-answer (TakeWhile t ∷ ss) ls full = full-answer ss _ (full-take (prefix_len (λ l. passes t l.text) ls) ls full)
 full-answer (SkipWhile t ∷ ss) ls full = full-answer ss _ (full-drop (prefix_len (λ l. passes t l.text) ls) ls full)
+full-answer (Distinct k ∷ ss) ls full = full-answer ss _ (full-distinct k.key k.seen ls full)
 
 -- what is written of a line and of the others
 pub written-cons : (o : Option (List ℕ)) (l : Line) (ls : List Line) → written

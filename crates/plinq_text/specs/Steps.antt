@@ -1,16 +1,17 @@
 -- What the steps of a query make of lines.
 use Rattle.std.specs.Prelude.{ℕ, zero, suc, ◌-◌, ◌==◌, nat_eq, ◌||◌, ◌&&◌, Bool, true, false, not, if◌then◌else◌, List, [], ◌∷◌, ◌++◌, take}
 use Rattle.std.specs.Prelude.{drop, map, filter, Option, Some, None, is_some, option_map, option_and_then, filter_map, string_bytes}
-use Rattle.std.specs.List.{starts_with, ends_with, prefix_len, take_while}
+use Rattle.std.specs.List.{starts_with, ends_with, prefix_len, take_while, list_any}
 use Rattle.std.specs.Str.{bytes_eq}
 use Rattle.memchr.specs.Find.{first_of, matches}
 use Rattle.plinq_text.specs.declared.line_step.Field.{Field}
+use Rattle.plinq_text.specs.declared.line_step.Fields.{Fields}
 use Rattle.plinq_text.specs.declared.line_step.LineStep.{LineStep}
-use Rattle.plinq_text.specs.declared.line_step.LineStep.TheVariants.{Filter, Select, Take, Skip, TakeWhile, SkipWhile}
+use Rattle.plinq_text.specs.declared.line_step.LineStep.TheVariants.{Filter, Select, Take, Skip, TakeWhile, SkipWhile, Distinct}
 use Rattle.plinq_text.specs.declared.line_test.LineTest.{LineTest}
 use Rattle.plinq_text.specs.declared.line_test.TestKind.{TestKind}
 use Rattle.plinq_text.specs.declared.line_test.TestKind.TheVariants.{Contains, StartsWith, EndsWith, Is, Matches}
-use Rattle.plinq_text.specs.Fields.{field_of}
+use Rattle.plinq_text.specs.Fields.{field_of, fields_of}
 use Rattle.plinq_text.specs.Patterns.{pattern_finds}
 use Rattle.plinq_text.specs.Lines.{Line, lines_of, written}
 
@@ -37,6 +38,27 @@ passes t text =
     let holds = compares t.kind (string_bytes t.text) (subject t.field text) in
     if t.negated then not holds else holds
 
+-- what of a text must be new: fields of it, or all of it
+abbrev pub key_of : Option Fields → List ℕ → List ℕ
+key_of None text = text
+key_of (Some f) text = fields_of f text
+
+-- whether a text is among those that came before
+abbrev pub has : List (List ℕ) → List ℕ → Bool
+has seen text = list_any (bytes_eq text) seen
+
+-- they, and this text
+abbrev pub with_text_seen : List (List ℕ) → List ℕ → List (List ℕ)
+with_text_seen seen text = if has seen text then seen else seen ++ text ∷ []
+
+-- the lines whose keys didn't come before
+unfoldable pub distinct : Option Fields → List (List ℕ) → List Line → List Line
+distinct key seen [] = []
+distinct key seen (l ∷ ls) =
+    if has seen (key_of key l.text)
+    then distinct key seen ls
+    else l ∷ distinct key (seen ++ key_of key l.text ∷ []) ls
+
 -- a line with another text
 abbrev pub with_text : Line → List ℕ → Line
 with_text l text = record { text = text; end = l.end }
@@ -44,11 +66,12 @@ with_text l text = record { text = text; end = l.end }
 -- what a step makes of lines
 abbrev pub apply : LineStep → List Line → List Line
 apply (Filter t) ls = filter (λ l. passes t l.text) ls
-apply (Select f) ls = map (λ l. with_text l (field_of f l.text)) ls
+apply (Select f) ls = map (λ l. with_text l (fields_of f l.text)) ls
 apply (Take n) ls = take n ls
 apply (Skip n) ls = drop n ls
 apply (TakeWhile t) ls = take_while (λ l. passes t l.text) ls
 apply (SkipWhile t) ls = drop (prefix_len (λ l. passes t l.text) ls) ls
+apply (Distinct k) ls = distinct k.key k.seen ls
 
 -- what steps make of lines, one after another
 unfoldable pub answer : List LineStep → List Line → List Line
@@ -62,13 +85,14 @@ answer_text ss text = written (answer ss (lines_of text))
 -- what a step makes of the text of one line, if the line passes
 abbrev pub does : LineStep → List ℕ → Option (List ℕ)
 does (Filter t) text = if passes t text then Some text else None
-does (Select f) text = Some (field_of f text)
+does (Select f) text = Some (fields_of f text)
 does (Take zero) text = None
 does (Take (suc n)) text = Some text
 does (Skip zero) text = Some text
 does (Skip (suc n)) text = None
 does (TakeWhile t) text = if passes t text then Some text else None
 does (SkipWhile t) text = if passes t text then None else Some text
+does (Distinct k) text = if has k.seen (key_of k.key text) then None else Some text
 
 -- what is left of a step once a line of this text came to it
 abbrev pub after_one : LineStep → List ℕ → LineStep
@@ -78,6 +102,7 @@ after_one (Take n) text = Take (n - 1)
 after_one (Skip n) text = Skip (n - 1)
 after_one (TakeWhile t) text = if passes t text then TakeWhile t else Take 0
 after_one (SkipWhile t) text = if passes t text then SkipWhile t else Skip 0
+after_one (Distinct k) text = Distinct (record { key = k.key; seen = with_text_seen k.seen (key_of k.key text) })
 
 -- what a row of steps makes of the text of one line, if the line passes
 unfoldable pub row_does : List LineStep → List ℕ → Option (List ℕ)
@@ -118,32 +143,12 @@ is_alone (Take n) = false
 is_alone (Skip n) = n == 0
 is_alone (TakeWhile t) = false
 is_alone (SkipWhile t) = false
+is_alone (Distinct k) = false
 
 -- whether each of these steps does
 abbrev pub are_alone : List LineStep → Bool
 are_alone [] = true
 are_alone (s ∷ ss) = is_alone s && are_alone ss
-
--- whether a step searches for a pattern
-abbrev pub is_search : TestKind → Bool
-is_search Contains = false
-is_search StartsWith = false
-is_search EndsWith = false
-is_search Is = false
-is_search Matches = true
-
-abbrev pub searches : LineStep → Bool
-searches (Filter t) = is_search t.kind
-searches (Select f) = false
-searches (Take n) = false
-searches (Skip n) = false
-searches (TakeWhile t) = is_search t.kind
-searches (SkipWhile t) = is_search t.kind
-
--- whether one of these steps does
-abbrev pub has_pattern : List LineStep → Bool
-has_pattern [] = false
-has_pattern (s ∷ ss) = searches s || has_pattern ss
 
 -- whether a step is a Take that has nothing left to take
 abbrev pub takes_none : LineStep → Bool
@@ -153,6 +158,7 @@ takes_none (Select f) = false
 takes_none (Skip n) = false
 takes_none (TakeWhile t) = false
 takes_none (SkipWhile t) = false
+takes_none (Distinct k) = false
 
 -- whether no line more can come out of these steps
 abbrev pub is_over : List LineStep → Bool

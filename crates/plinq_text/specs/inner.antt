@@ -1,3 +1,3 @@
 -- Words that no public contract reaches: private contracts and proofs cite them.
-pub mod Searchers
+pub mod Outcomes
 pub mod Ready

@@ -1,9 +1,14 @@
-ghost use Rattle.std.specs.Prelude.{◌≡◌, ◌≤◌, ◌+◌, ◌==◌, take, drop, length};
+ghost use Rattle.std.specs.Prelude.{◌≡◌, ◌≤◌, ◌+◌, ◌==◌, ◌++◌, IfOk, take, drop, length};
 ghost use Rattle.std.specs.List.{prefix_len};
-ghost use Rattle.plinq_text.specs.Fields.{after_blanks, column, field_of, is_blank, place_of, word};
+ghost use Rattle.plinq_text.specs.Fields.{after_blanks, column, field_between, field_of, fields, fields_of, from_column, from_field};
+ghost use Rattle.plinq_text.specs.Fields.{from_word, further, glue, is_blank, place_of, rest, word};
+ghost use Rattle.plinq_text.specs.inner.Outcomes.{text_of};
+ghost use Rattle.std.specs.Prelude.{Some};
 
-use crate::line_step::{Field, Separator};
+use crate::line_step::{Field, Fields, Separator};
+use crate::outcome::{Outcome, Spares};
 use memchr::memchr;
+use std::alloc::AllocError;
 
 const NOTHING: &[u8] = b"";
 
@@ -11,14 +16,104 @@ const NOTHING: &[u8] = b"";
 pub(crate) fn field(text: &[u8], which: Field) -> &[u8]
     ensures { result.now ≡ field_of which text.now }
 {
-    match which.separator {
-        Separator::Blanks => word(text, which.index),
-        Separator::Byte(byte) => column(text, byte, which.index),
+    field_between(text, which.separator, which.index)
+}
+
+fn field_between(text: &[u8], separator: Separator, index: u64) -> &[u8]
+    ensures { result.now ≡ field_between separator index text.now }
+{
+    match separator {
+        Separator::Blanks => word(text, index),
+        Separator::Byte(byte) => column(text, byte, index),
+    }
+}
+
+/// A text from a field on; nothing if there are too few.
+fn from_field(text: &[u8], separator: Separator, index: u64) -> &[u8]
+    ensures { result.now ≡ from_field separator index text.now }
+{
+    match separator {
+        Separator::Blanks => from_word(text, index),
+        Separator::Byte(byte) => from_column(text, byte, index),
+    }
+}
+
+/// The fields that are selected. One alone is a part of the text, and so is all from one on.
+pub(crate) fn select<'t>(
+    text: &'t [u8],
+    which: &Fields,
+    spares: &mut Spares,
+) -> Result<Outcome<'t>, AllocError>
+    ensures { IfOk result (λ outcome. text_of outcome ≡ Some (fields_of which.now text.now)) }
+{
+    let separator = which.separator;
+    match which.indexes.as_slice() {
+        [] => Ok(Outcome::Text(match which.rest {
+            Some(index) => from_field(text, separator, index),
+            None => NOTHING,
+        })),
+        [index] if which.rest.is_none() => Ok(Outcome::Text(field_between(
+            text, separator, *index,
+        ))),
+        [index, further @ ..] => {
+            let mut made = spares.take();
+            made.extend_from_slice(field_between(text, separator, *index))?;
+            put_further(text, separator, further, &mut made)?;
+            put_rest(text, separator, which.rest, &mut made)?;
+            Ok(Outcome::Made(made))
+        }
+    }
+}
+
+/// Appends further fields, each after what stands between two.
+fn put_further(
+    text: &[u8],
+    separator: Separator,
+    indexes: &[u64],
+    out: &mut Vec<u8>,
+) -> Result<(), AllocError>
+    ensures { IfOk result (λ _. out.new.items ≡ out.old.items ++ further separator (fields separator indexes.now text.now)) }
+{
+    for index in indexes {
+        out.push(glue(separator))?;
+        out.extend_from_slice(field_between(text, separator, *index))?;
+    }
+    Ok(())
+}
+
+/// Appends the text from a field on, after what stands between two, if that is asked for.
+fn put_rest(
+    text: &[u8],
+    separator: Separator,
+    index: Option<u64>,
+    out: &mut Vec<u8>,
+) -> Result<(), AllocError>
+    ensures { IfOk result (λ _. out.new.items ≡ out.old.items ++ further separator (rest separator index text.now)) }
+{
+    let Some(index) = index else {
+        return Ok(());
+    };
+    out.push(glue(separator))?;
+    out.extend_from_slice(from_field(text, separator, index))
+}
+
+fn glue(separator: Separator) -> u8
+    ensures { result ≡ glue separator }
+{
+    match separator {
+        Separator::Blanks | Separator::Byte(b'\n') => b' ',
+        Separator::Byte(byte) => byte,
     }
 }
 
 fn column(text: &[u8], byte: u8, index: u64) -> &[u8]
     ensures { result.now ≡ column byte index text.now }
+{
+    before(from_column(text, byte, index), byte)
+}
+
+fn from_column(text: &[u8], byte: u8, index: u64) -> &[u8]
+    ensures { result.now ≡ from_column byte index text.now }
 {
     let mut rest = text;
     for _column in 0..index {
@@ -27,11 +122,18 @@ fn column(text: &[u8], byte: u8, index: u64) -> &[u8]
         }
         rest = after(rest, byte);
     }
-    before(rest, byte)
+    rest
 }
 
 fn word(text: &[u8], index: u64) -> &[u8]
     ensures { result.now ≡ word index text.now }
+{
+    let at = from_word(text, index);
+    &at[..word_len(at)]
+}
+
+fn from_word(text: &[u8], index: u64) -> &[u8]
+    ensures { result.now ≡ from_word index text.now }
 {
     let mut rest = text;
     for _word in 0..index {
@@ -41,8 +143,7 @@ fn word(text: &[u8], index: u64) -> &[u8]
         let at = skip_blanks(rest);
         rest = &at[word_len(at)..];
     }
-    let at = skip_blanks(rest);
-    &at[..word_len(at)]
+    skip_blanks(rest)
 }
 
 /// What stands before the first byte of this value.

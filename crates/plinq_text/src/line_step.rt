@@ -1,12 +1,13 @@
 use crate::line_test::LineTest;
+use crate::seen::Seen;
 
 /// A step of a query over lines.
 #[derive(Debug, Drop)]
 pub enum LineStep {
     /// Lets a line pass if its text passes the test (.NET's `Where`).
     Filter(LineTest),
-    /// Puts a field of the text in its place (.NET's `Select`). The line feed stays.
-    Select(Field),
+    /// Puts fields of the text in its place (.NET's `Select`). The line feed stays.
+    Select(Fields),
     /// So many lines more, and then none.
     Take(u64),
     /// All lines but so many first ones.
@@ -15,6 +16,8 @@ pub enum LineStep {
     TakeWhile(LineTest),
     /// All lines from the first on whose text fails the test.
     SkipWhile(LineTest),
+    /// The lines whose text, or fields of it, didn't come before (.NET's `Distinct` and `DistinctBy`).
+    Distinct(Known),
 }
 
 /// A part of a line's text, as `cut` and awk have it.
@@ -24,6 +27,26 @@ pub struct Field {
     pub index: u64,
     /// What stands between two fields.
     pub separator: Separator,
+}
+
+/// Parts of a line's text, as `cut` and awk print them.
+#[derive(Debug, Drop)]
+pub struct Fields {
+    /// Which ones, counted from 0, in the order in which they are written.
+    pub indexes: Vec<u64>,
+    /// From which one on the text follows as it is, counted from 0; none if it doesn't.
+    pub rest: Option<u64>,
+    /// What stands between two fields of the text, and is written between two of these; a space is written for blanks.
+    pub separator: Separator,
+}
+
+/// What is known of the lines that came before.
+#[derive(Debug, Drop)]
+pub struct Known {
+    /// Which fields of a line's text must be new; all of it if there are none.
+    pub key: Option<Fields>,
+    /// Those that came.
+    pub seen: Seen,
 }
 
 /// What stands between two fields.

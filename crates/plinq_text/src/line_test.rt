@@ -1,6 +1,6 @@
 ghost use Rattle.std.specs.Prelude.{◌≡◌};
 ghost use Rattle.plinq_text.specs.Steps.{compares, passes, subject};
-ghost use Rattle.plinq_text.specs.inner.Searchers.{pattern_for, pattern_of};
+ghost use Rattle.plinq_text.specs.StepPatterns.{pattern_for, pattern_of};
 
 use crate::fields::field;
 use crate::line_step::Field;

@@ -1,9 +1,9 @@
-ghost use Rattle.std.specs.Prelude.{◌≡◌, IfOk, IfSome, List, ℕ, Option, map, option_map};
+ghost use Rattle.std.specs.Prelude.{◌≡◌, IfOk, IfSome, List, ℕ, Option, is_some, option_map};
 ghost use Rattle.std.specs.Option.{ForSome};
 ghost use Rattle.regex.specs.Bytes.{matcher_pattern, regex_source};
 ghost use Rattle.plinq_text.specs.Patterns.{pattern_finds};
-ghost use Rattle.plinq_text.specs.Steps.{has_pattern, is_search, searches};
-ghost use Rattle.plinq_text.specs.inner.Searchers.{FindsAs, IsCompiled, pattern_of, pattern_of_step};
+ghost use Rattle.plinq_text.specs.StepPatterns.{ArePatternsOf, has_pattern, pattern_of, pattern_of_step};
+ghost use Rattle.plinq_text.specs.Compiled.{FindsAs, IsCompiled};
 
 use crate::line_step::LineStep;
 use crate::line_test::{LineTest, TestKind};
@@ -11,9 +11,9 @@ use regex::bytes::{Matcher, Regex};
 use std::alloc::{AllocError, Global};
 use std::marker::Model;
 
-/// A test's pattern, compiled, if it has one. A contract sees the text of the pattern.
+/// The pattern of a step's test, compiled, or nothing if it has none. A contract sees the text of the pattern.
 #[derive(Drop)]
-pub(crate) struct Pattern {
+pub struct Pattern {
     regex: Option<Regex>,
     ghost compiled: { ∥ ForSome regex IsCompiled ∥₁ },
 }
@@ -25,7 +25,7 @@ impl Model for Pattern {
 }
 
 impl Pattern {
-    /// The pattern of a test. What is none is taken for want of memory: whoever makes a test looks at its pattern first.
+    // (an expression that is none is taken for want of memory, as `patterns` says)
     fn of_test(alloc: Global, test: &LineTest) -> Result<Pattern, AllocError>
         ensures { IfOk result (λ p. p ≡ pattern_of test.now) }
     {
@@ -38,6 +38,12 @@ impl Pattern {
         }
     }
 
+    fn is_some(&self) -> bool
+        ensures { result ≡ is_some self.now }
+    {
+        self.regex.is_some()
+    }
+
     fn of_step(alloc: Global, step: &LineStep) -> Result<Pattern, AllocError>
         ensures { IfOk result (λ p. p ≡ pattern_of_step step.now) }
     {
@@ -45,7 +51,7 @@ impl Pattern {
             LineStep::Filter(test) => Pattern::of_test(alloc, test),
             LineStep::TakeWhile(test) => Pattern::of_test(alloc, test),
             LineStep::SkipWhile(test) => Pattern::of_test(alloc, test),
-            LineStep::Select(_) | LineStep::Take(_) | LineStep::Skip(_) => {
+            LineStep::Select(_) | LineStep::Take(_) | LineStep::Skip(_) | LineStep::Distinct(_) => {
                 Ok(Pattern { regex: None })
             }
         }
@@ -95,39 +101,24 @@ impl<'r> Searcher<'r> {
     }
 }
 
-/// Whether a step searches for a pattern, which each call of [`make_lines`](crate::make_lines) compiles.
-pub fn has_pattern(steps: &[LineStep]) -> bool
-    ensures { result ≡ has_pattern steps.now }
+/// Whether there is a pattern among these.
+pub fn has_pattern(patterns: &[Pattern]) -> bool
+    ensures { result ≡ has_pattern patterns.now }
 {
-    match steps.split_first() {
-        Some((step, later)) => searches(step) || has_pattern(later),
+    match patterns.split_first() {
+        Some((pattern, later)) => pattern.is_some() || has_pattern(later),
         None => false,
     }
 }
 
-fn searches(step: &LineStep) -> bool
-    ensures { result ≡ searches step.now }
-{
-    match step {
-        LineStep::Filter(test) => is_search(test.kind),
-        LineStep::TakeWhile(test) => is_search(test.kind),
-        LineStep::SkipWhile(test) => is_search(test.kind),
-        LineStep::Select(_) | LineStep::Take(_) | LineStep::Skip(_) => false,
-    }
-}
-
-fn is_search(kind: TestKind) -> bool
-    ensures { result ≡ is_search kind }
-{
-    match kind {
-        TestKind::Matches => true,
-        TestKind::Contains | TestKind::StartsWith | TestKind::EndsWith | TestKind::Is => false,
-    }
-}
-
-/// The patterns of steps, one for each.
-pub(crate) fn patterns(alloc: Global, steps: &[LineStep]) -> Result<Vec<Pattern>, AllocError>
-    ensures { IfOk result (λ all. all.items ≡ map pattern_of_step steps.now) }
+/// Compiles the patterns of steps, one for each step.
+///
+/// # Errors
+///
+/// [`AllocError`] if memory runs out, and if what a test is to match is no regular expression or is too large a one. Whoever makes
+/// such a test compiles it once, to see what is wrong with it.
+pub fn patterns(alloc: Global, steps: &[LineStep]) -> Result<Vec<Pattern>, AllocError>
+    ensures { IfOk result (λ all. ArePatternsOf steps.now all.items) }
 {
     let mut all = Vec::with_capacity(alloc, steps.len())?;
     for step in steps {

@@ -1,13 +1,17 @@
-ghost use Rattle.std.specs.Prelude.{◌≡◌, ℕ, List, All, IfOk, drop, map, option_map};
-ghost use Rattle.plinq_text.specs.inner.Ready.{IsReady, does_ready, kept_if, row_ready};
-ghost use Rattle.plinq_text.specs.inner.Searchers.{pattern_of, pattern_of_step};
-ghost use Rattle.plinq_text.specs.Steps.{contains, does, passes, row_does};
+ghost use Rattle.std.specs.Prelude.{◌≡◌, ℕ, List, ◌++◌, All, IfOk, drop};
+ghost use Rattle.plinq_text.specs.inner.Outcomes.{text_of};
+ghost use Rattle.plinq_text.specs.inner.Ready.{IsReady, does_ready, row_ready};
+ghost use Rattle.plinq_text.specs.StepPatterns.{ArePatternsOf, IsPatternOf, pattern_of};
+ghost use Rattle.plinq_text.specs.Steps.{bytes_of, contains, does, passes, row_does};
 ghost use Rattle.plinq_text.specs.declared.line_step.LineStep.TheVariants.{Filter};
 
-use crate::fields::field;
-use crate::line_step::{Field, LineStep};
+use crate::fields::select;
+use crate::known::would_be_new;
+use crate::line_step::{Fields, Known, LineStep};
 use crate::line_test::{LineTest, TestKind, passes};
+use crate::outcome::{Outcome, Spares, text_if};
 use crate::pattern::{Pattern, Searcher};
+use crate::splitting::put_line;
 use memchr::memmem::Finder;
 use std::alloc::{AllocError, Global};
 
@@ -22,8 +26,10 @@ pub(crate) enum ReadyStep<'q> {
     Test(Tester<'q>),
     /// Lets a line pass that fails this test.
     TestNot(Tester<'q>),
-    /// Puts a field in the text's place.
-    Part(Field),
+    /// Lets a line pass that didn't come before.
+    Unknown(&'q Known),
+    /// Puts fields in the text's place.
+    Parts(&'q Fields),
     /// Lets each line pass.
     Pass,
     /// Lets none pass.
@@ -43,7 +49,7 @@ pub(crate) fn ready<'q>(
     steps: &'q [LineStep],
     patterns: &'q [Pattern],
 ) -> Result<Vec<ReadyStep<'q>>, AllocError>
-    requires { patterns.now ≡ map pattern_of_step steps.now }
+    requires { ArePatternsOf steps.now patterns.now }
     ensures same { IfOk result (λ made. (text : List ℕ) → row_ready made.items text ≡ row_does steps.now text) }
     ensures ready { IfOk result (λ made. All IsReady made.items) }
 {
@@ -59,18 +65,19 @@ fn ready_step<'q>(
     step: &'q LineStep,
     pattern: &'q Pattern,
 ) -> Result<ReadyStep<'q>, AllocError>
-    requires { pattern.now ≡ pattern_of_step step.now }
+    requires { IsPatternOf step.now pattern.now }
     ensures same { IfOk result (λ r. (text : List ℕ) → does_ready r text ≡ does step.now text) }
     ensures ready { IfOk result IsReady }
 {
     match step {
         LineStep::Filter(test) => ready_test(alloc, test, pattern),
-        LineStep::Select(field) => Ok(ReadyStep::Part(*field)),
+        LineStep::Select(which) => Ok(ReadyStep::Parts(which)),
         LineStep::Take(0) => Ok(ReadyStep::Nothing),
         LineStep::Take(_) | LineStep::Skip(0) => Ok(ReadyStep::Pass),
         LineStep::Skip(_) => Ok(ReadyStep::Nothing),
         LineStep::TakeWhile(test) => Ok(ReadyStep::Test(make_tester(alloc, test, pattern)?)),
         LineStep::SkipWhile(test) => Ok(ReadyStep::TestNot(make_tester(alloc, test, pattern)?)),
+        LineStep::Distinct(known) => Ok(ReadyStep::Unknown(known)),
     }
 }
 
@@ -112,49 +119,58 @@ fn make_tester<'q>(
     })
 }
 
-/// What ready steps from a place on make of the text of one line, if the line passes.
+/// Appends what ready steps from a place on make of one line.
 #[tactic(auto, unfolding(crate::specs::inner::Ready::row_ready))]
-pub(crate) fn through<'t>(
+pub(crate) fn put_through(
     steps: &mut [ReadyStep<'_>],
+    spares: &mut Spares,
     at: usize,
-    text: &'t [u8],
-) -> Option<&'t [u8]>
+    text: &[u8],
+    end: &[u8],
+    out: &mut Vec<u8>,
+) -> Result<(), AllocError>
     requires { All IsReady steps.old }
-    ensures does { option_map (λ t. t.now) result ≡ row_ready (drop at steps.old) text.now }
+    ensures made { IfOk result (λ _. out.new.items ≡ out.old.items ++ bytes_of (row_ready (drop at steps.old) text.now) end.now) }
     ensures same { steps.new ≡ steps.old }
 {
     if at >= steps.len() {
-        return Some(text);
+        return put_line(text, end, out);
     }
-    match through_one(&mut steps[at], text) {
-        Some(text) => through(steps, at + 1, text),
-        None => None,
+    match through_one(&mut steps[at], spares, text)? {
+        Outcome::Gone => Ok(()),
+        Outcome::Text(text) => put_through(steps, spares, at + 1, text, end, out),
+        Outcome::Made(made) => {
+            put_through(steps, spares, at + 1, made.as_slice(), end, out)?;
+            spares.give_back(made)
+        }
     }
 }
 
-fn through_one<'t>(step: &mut ReadyStep<'_>, text: &'t [u8]) -> Option<&'t [u8]>
+fn through_one<'t>(
+    step: &mut ReadyStep<'_>,
+    spares: &mut Spares,
+    text: &'t [u8],
+) -> Result<Outcome<'t>, AllocError>
     requires { IsReady step.old }
-    ensures does { option_map (λ t. t.now) result ≡ does_ready step.old text.now }
+    ensures does { IfOk result (λ outcome. text_of outcome ≡ does_ready step.old text.now) }
     ensures same { step.new ≡ step.old }
 {
     match step {
-        ReadyStep::Search(finder) => kept_if(finds(finder, text), text),
-        ReadyStep::SearchNot(finder) => kept_if(!finds(finder, text), text),
-        ReadyStep::Test(tester) => kept_if(passes(tester.test, &mut tester.searcher, text), text),
-        ReadyStep::TestNot(tester) => kept_if(
-            !passes(tester.test, &mut tester.searcher, text),
-            text,
-        ),
-        ReadyStep::Part(which) => Some(field(text, *which)),
-        ReadyStep::Pass => Some(text),
-        ReadyStep::Nothing => None,
+        ReadyStep::Search(finder) => Ok(text_if(finds(finder, text), text)),
+        ReadyStep::SearchNot(finder) => Ok(text_if(!finds(finder, text), text)),
+        ReadyStep::Test(tester) => {
+            let passes = passes(tester.test, &mut tester.searcher, text);
+            Ok(text_if(passes, text))
+        }
+        ReadyStep::TestNot(tester) => {
+            let passes = passes(tester.test, &mut tester.searcher, text);
+            Ok(text_if(!passes, text))
+        }
+        ReadyStep::Unknown(known) => Ok(text_if(would_be_new(known, spares, text)?, text)),
+        ReadyStep::Parts(which) => select(text, which, spares),
+        ReadyStep::Pass => Ok(Outcome::Text(text)),
+        ReadyStep::Nothing => Ok(Outcome::Gone),
     }
-}
-
-fn kept_if(passes: bool, text: &[u8]) -> Option<&[u8]>
-    ensures { option_map (λ t. t.now) result ≡ kept_if passes text.now }
-{
-    if passes { Some(text) } else { None }
 }
 
 fn finds(finder: &Finder<'_>, text: &[u8]) -> bool

@@ -1,6 +1,5 @@
-ghost use Rattle.std.specs.Prelude.{◌≡◌, [], ◌∷◌, ◌<◌, length, ◌++◌, IfOk, option_map, MatchOption};
+ghost use Rattle.std.specs.Prelude.{◌≡◌, [], ◌∷◌, ◌<◌, length, ◌++◌, IfOk, MatchOption};
 ghost use Rattle.plinq_text.specs.Lines.{Line, lines_of};
-ghost use Rattle.plinq_text.specs.Steps.{bytes_of};
 
 use memchr::memchr;
 use std::alloc::AllocError;
@@ -11,17 +10,17 @@ const NOTHING: &[u8] = b"";
 
 /// A line of a text.
 #[derive(Clone, Copy)]
-pub(crate) struct LineAt<'t> {
+pub struct LineAt<'t> {
     /// Its text.
-    pub(crate) text: &'t [u8],
+    pub text: &'t [u8],
     /// The line feed that ends it, or nothing.
-    pub(crate) end: &'t [u8],
+    pub end: &'t [u8],
     /// What comes after it.
-    pub(crate) rest: &'t [u8],
+    pub rest: &'t [u8],
 }
 
 /// The first line of a text, unless the text is empty.
-pub(crate) fn first_line(text: &[u8]) -> Option<LineAt<'_>>
+pub fn first_line(text: &[u8]) -> Option<LineAt<'_>>
     ensures { MatchOption result (lines_of text.now ≡ [])
         (λ l. (lines_of text.now ≡ record { text = l.text.now; end = l.end.now } ∷ lines_of l.rest.now) × (length l.rest.now < length text.now)) }
 {
@@ -40,15 +39,10 @@ pub(crate) fn first_line(text: &[u8]) -> Option<LineAt<'_>>
     }
 }
 
-/// Appends the text of a line and what ends it, if there is a text.
-pub(crate) fn put_line(text: Option<&[u8]>, end: &[u8], out: &mut Vec<u8>) -> Result<(), AllocError>
-    ensures { IfOk result (λ _. out.new.items ≡ out.old.items ++ bytes_of (option_map (λ t. t.now) text.entry) end.now) }
+/// Appends the text of a line and what ends it.
+pub(crate) fn put_line(text: &[u8], end: &[u8], out: &mut Vec<u8>) -> Result<(), AllocError>
+    ensures { IfOk result (λ _. out.new.items ≡ out.old.items ++ (text.now ++ end.now)) }
 {
-    match text {
-        None => Ok(()),
-        Some(text) => {
-            out.extend_from_slice(text)?;
-            out.extend_from_slice(end)
-        }
-    }
+    out.extend_from_slice(text)?;
+    out.extend_from_slice(end)
 }

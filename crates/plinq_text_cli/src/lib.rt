@@ -2,7 +2,8 @@
 //!
 //! - [`read_query`] reads the steps of a query from its words, as `filter contains "disk full" | select field 1 | take 10`.
 //! - [`perform_lines`] does what the words ask for. Each file is answered by `plinq_rounds::answer_lines`, with what is left of the
-//!   steps after the files before it.
+//!   steps after the files before it. Of a count, `plinq_rounds::tally_lines` counts each file's lines, and what it counted is written
+//!   after the last.
 #![tactic(auto)]
 
 mod ended;
@@ -13,5 +14,5 @@ mod tokens;
 mod words;
 
 pub use performing::perform_lines;
-pub use query::read_query;
+pub use query::{LinesEnd, LinesQuery, read_query};
 pub use query_fault::QueryFault;

@@ -1,14 +1,14 @@
 ghost use Rattle.std.specs.Prelude.{◌≤◌};
 
 use crate::ended::Ended;
-use crate::query::read_query;
+use crate::query::{LinesEnd, LinesQuery, read_query};
 use crate::query_fault::QueryFault;
 use crate::words::{Asked, read_words};
 use clap::error::ErrorKind;
 use plinq_cli::WithCause;
-use plinq_rounds::{LinesFault, ReadBuffer, answer_lines};
+use plinq_rounds::{LinesFault, ReadBuffer, answer_lines, tally_lines, write_tally, write_total};
 use plinq_settings::Degree;
-use plinq_text::LineStep;
+use plinq_tally::Tally;
 use std::alloc::Global;
 use std::io::{Read, Write};
 use std::rt::Files;
@@ -25,9 +25,11 @@ const READ_BYTES: usize = 4_194_304;
 struct Answering {
     alloc: Global,
     workers: Degree,
-    /// What is left of the steps after the readers before it.
-    steps: Vec<LineStep>,
+    /// The query, with what is left of its steps after the readers before this one.
+    query: LinesQuery,
     buffer: ReadBuffer,
+    /// What was counted, if the query ends in a count.
+    tally: Tally,
 }
 
 /// Does what `plinq lines` does: reads a query from the words, of which the first is `lines`, and the lines of files or of `input`.
@@ -72,8 +74,8 @@ where
     E: Write,
     ensures { result ≤ 5 }
 {
-    let steps = match read_query(alloc, asked.query) {
-        Ok(steps) => steps,
+    let query = match read_query(alloc, asked.query) {
+        Ok(query) => query,
         Err(QueryFault::Memory) => return report(Err(LinesFault::Memory), "", None, None, err),
         Err(fault) => {
             let _ = writeln!(err, "error: {fault}\n\nFor more information, try '--help'.");
@@ -88,20 +90,54 @@ where
     let mut answering = Answering {
         alloc,
         workers,
-        steps,
+        query,
         buffer: ReadBuffer::new(alloc, READ_BYTES),
+        tally: Tally::new(alloc),
     };
+    let status = answer_files(rt, asked, &mut answering, input, out, err);
+    if status != 0 {
+        return status;
+    }
+    let outcome = write_counts(&answering, out);
+    report(outcome, "", None, out.cause(), err)
+}
+
+/// Answers the query over files, or over `input` if there are none.
+fn answer_files<R, I, W, E>(
+    rt: &R,
+    asked: &Asked<'_>,
+    answering: &mut Answering,
+    input: &mut WithCause<I>,
+    out: &mut WithCause<W>,
+    err: &mut E,
+) -> u8
+where
+    R: Clock + Files + Threads + Wait + Sync,
+    I: Read,
+    W: Write,
+    E: Write,
+    ensures { result ≤ 5 }
+{
     if asked.files.is_empty() {
-        return answer_named(rt, &mut answering, "-", true, input, out, err);
+        return answer_named(rt, answering, "-", true, input, out, err);
     }
     for (i, name) in asked.files.iter().enumerate() {
         let is_last = i + 1 == asked.files.len();
-        let status = answer_named(rt, &mut answering, *name, is_last, input, out, err);
+        let status = answer_named(rt, answering, *name, is_last, input, out, err);
         if status != 0 {
             return status;
         }
     }
     0
+}
+
+/// Writes what was counted, if the query ends in a count.
+fn write_counts<W: Write>(answering: &Answering, out: &mut W) -> Result<(), LinesFault> {
+    match answering.query.end {
+        LinesEnd::Write => Ok(()),
+        LinesEnd::Count => write_total(answering.alloc, &answering.tally, out),
+        LinesEnd::CountBy => write_tally(answering.alloc, &answering.tally, out),
+    }
 }
 
 /// Answers the lines of a file, or of `input` by the name of `-`.
@@ -148,8 +184,19 @@ where
     I: Read,
     W: Write,
 {
-    let steps = answering.steps.as_mut_slice();
+    let steps = answering.query.steps.as_mut_slice();
     let buffer = &mut answering.buffer;
+    if answering.query.end != LinesEnd::Write {
+        return tally_lines(
+            rt,
+            answering.alloc,
+            answering.workers,
+            steps,
+            buffer,
+            input,
+            &mut answering.tally,
+        );
+    }
     if is_last {
         return answer_lines(
             rt,

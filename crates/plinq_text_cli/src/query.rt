@@ -1,72 +1,172 @@
 use crate::query_fault::QueryFault;
 use crate::tokens::{Token, tokens_of};
-use plinq_text::{Field, LineStep, LineTest, Separator, TestKind};
+use plinq_text::{Field, Fields, Known, LineStep, LineTest, Seen, Separator, TestKind};
 use regex::Error;
 use regex::bytes::Regex;
 use std::alloc::Global;
 
-/// Reads the steps of a query from its words: steps that are parted by bars.
+/// How many fields a range of them has at most.
+const MOST_FIELDS: u64 = 1_000;
+
+/// A query over lines.
+#[derive(Debug, Drop)]
+pub struct LinesQuery {
+    /// Its steps.
+    pub steps: Vec<LineStep>,
+    /// What becomes of the lines that come out of them.
+    pub end: LinesEnd,
+}
+
+/// What becomes of the lines of an answer.
+#[derive(Clone, Copy, Debug, PartialEq, Eq)]
+pub enum LinesEnd {
+    /// They are written.
+    Write,
+    /// Their number is written.
+    Count,
+    /// How often each comes is written (.NET's `CountBy`).
+    CountBy,
+}
+
+/// Reads a query from its words: steps that are parted by bars.
 ///
 /// ```text
 /// filter [not] [field N [by TEXT]] contains|starts_with|ends_with|is|matches TEXT
-/// select field N [by TEXT]
+/// select field N.. [by TEXT]
 /// take N
 /// skip N
 /// take_while [not] [field N [by TEXT]] .. TEXT
 /// skip_while [not] [field N [by TEXT]] .. TEXT
+/// distinct [by line]
+/// distinct by field N.. [by TEXT]
+/// count
+/// count by line
+/// count by field N.. [by TEXT]
 /// ```
 ///
 /// A text stands in double quotes, in which `\"`, `\\`, `\t` and `\r` are what they are in Rust. Without blanks, quotes and bars it
-/// may do without. That of `matches` is a regular expression, whose backslashes are its own. Fields are counted from 1. A `not` may
-/// stand behind a field as well.
+/// may do without. That of `matches` is a regular expression, whose backslashes are its own. Fields are counted from 1, and
+/// several are written in the order in which the query names them: `1 3`, `1,3`, `2-4`. A last `3-` is the text from that one on. A
+/// `not` may stand behind a field as well. A count is the last step.
 ///
 /// # Errors
 ///
 /// The first [`QueryFault`], with the number of its step.
-pub fn read_query(alloc: Global, words: &str) -> Result<Vec<LineStep>, QueryFault> {
+pub fn read_query(alloc: Global, words: &str) -> Result<LinesQuery, QueryFault> {
     let tokens = tokens_of(alloc, words)?;
-    let mut steps = Vec::new(alloc);
+    let mut query = LinesQuery {
+        steps: Vec::new(alloc),
+        end: LinesEnd::Write,
+    };
+    let mut number: usize = 1;
     let mut parts = Vec::new(alloc);
     for token in tokens {
         match token {
             Token::Bar => {
-                let step = step_of(alloc, steps.len().saturating_add(1), parts)?;
-                steps.push(step)?;
+                add_step(alloc, &mut query, number, parts)?;
+                number = number.saturating_add(1);
                 parts = Vec::new(alloc);
             }
             Token::Word(word) => parts.push(Token::Word(word))?,
             Token::Text(text) => parts.push(Token::Text(text))?,
         }
     }
-    let step = step_of(alloc, steps.len().saturating_add(1), parts)?;
-    steps.push(step)?;
-    Ok(steps)
+    add_step(alloc, &mut query, number, parts)?;
+    Ok(query)
 }
 
-/// The step of these tokens, which has this number.
-fn step_of(alloc: Global, number: usize, tokens: Vec<Token>) -> Result<LineStep, QueryFault> {
+/// Adds the step of these tokens, which has this number.
+fn add_step(
+    alloc: Global,
+    query: &mut LinesQuery,
+    number: usize,
+    tokens: Vec<Token>,
+) -> Result<(), QueryFault> {
     // (the last token first, so that the next one is taken from the end)
     let mut parts = tokens;
     parts.reverse();
     if parts.is_empty() {
         return Err(QueryFault::NoStep(number));
     }
-    let Some(name) = next_word(&mut parts) else {
-        return Err(QueryFault::UnknownStep(number));
-    };
-    let step = match name.as_str() {
-        "filter" => LineStep::Filter(test_of(alloc, number, &mut parts)?),
-        "select" => LineStep::Select(field_of(number, &mut parts)?),
-        "take_while" => LineStep::TakeWhile(test_of(alloc, number, &mut parts)?),
-        "skip_while" => LineStep::SkipWhile(test_of(alloc, number, &mut parts)?),
-        "take" => LineStep::Take(count_of(number, &mut parts)?),
-        "skip" => LineStep::Skip(count_of(number, &mut parts)?),
-        _ => return Err(QueryFault::UnknownStep(number)),
-    };
+    if query.end != LinesEnd::Write {
+        return Err(QueryFault::AfterCount(number));
+    }
+    if take_word(&mut parts, "count") {
+        query.end = add_key(alloc, number, &mut query.steps, &mut parts)?;
+    } else {
+        query.steps.push(step_of(alloc, number, &mut parts)?)?;
+    }
     if parts.is_empty() {
-        return Ok(step);
+        return Ok(());
     }
     Err(QueryFault::TooLong(number))
+}
+
+/// Adds the step that leaves of each line what is counted, if it isn't all of it.
+fn add_key(
+    alloc: Global,
+    number: usize,
+    steps: &mut Vec<LineStep>,
+    parts: &mut Vec<Token>,
+) -> Result<LinesEnd, QueryFault> {
+    if !take_word(parts, "by") {
+        steps.push(LineStep::Select(Fields {
+            indexes: Vec::new(alloc),
+            rest: None,
+            separator: Separator::Blanks,
+        }))?;
+        return Ok(LinesEnd::Count);
+    }
+    if let Some(fields) = key_of(alloc, number, parts)? {
+        steps.push(LineStep::Select(fields))?;
+    }
+    Ok(LinesEnd::CountBy)
+}
+
+/// Which fields stand behind `by`; none if the whole line does.
+fn key_of(
+    alloc: Global,
+    number: usize,
+    parts: &mut Vec<Token>,
+) -> Result<Option<Fields>, QueryFault> {
+    if take_word(parts, "line") {
+        return Ok(None);
+    }
+    if !has_next(parts, "field") {
+        return Err(QueryFault::NoKey(number));
+    }
+    Ok(Some(fields_of(alloc, number, parts)?))
+}
+
+/// What a distinct looks at.
+fn distinct_key(
+    alloc: Global,
+    number: usize,
+    parts: &mut Vec<Token>,
+) -> Result<Option<Fields>, QueryFault> {
+    if take_word(parts, "by") {
+        return key_of(alloc, number, parts);
+    }
+    Ok(None)
+}
+
+fn step_of(alloc: Global, number: usize, parts: &mut Vec<Token>) -> Result<LineStep, QueryFault> {
+    let Some(name) = next_word(parts) else {
+        return Err(QueryFault::UnknownStep(number));
+    };
+    match name.as_str() {
+        "filter" => Ok(LineStep::Filter(test_of(alloc, number, parts)?)),
+        "select" => Ok(LineStep::Select(fields_of(alloc, number, parts)?)),
+        "take_while" => Ok(LineStep::TakeWhile(test_of(alloc, number, parts)?)),
+        "skip_while" => Ok(LineStep::SkipWhile(test_of(alloc, number, parts)?)),
+        "distinct" => Ok(LineStep::Distinct(Known {
+            key: distinct_key(alloc, number, parts)?,
+            seen: Seen::new(alloc),
+        })),
+        "take" => Ok(LineStep::Take(count_of(number, parts)?)),
+        "skip" => Ok(LineStep::Skip(count_of(number, parts)?)),
+        _ => Err(QueryFault::UnknownStep(number)),
+    }
 }
 
 fn test_of(alloc: Global, number: usize, parts: &mut Vec<Token>) -> Result<LineTest, QueryFault> {
@@ -124,19 +224,85 @@ fn kind_of(name: &str) -> Option<TestKind> {
 }
 
 fn field_of(number: usize, parts: &mut Vec<Token>) -> Result<Field, QueryFault> {
-    if !next_is(parts, "field") {
-        return Err(QueryFault::NoField(number));
-    }
-    let Some(count) = next_number(parts) else {
-        return Err(QueryFault::NoField(number));
-    };
-    if count == 0 {
+    if !take_word(parts, "field") {
         return Err(QueryFault::NoField(number));
     }
     Ok(Field {
-        index: count - 1,
+        index: index_of(number, parts)?,
         separator: separator_of(number, parts)?,
     })
+}
+
+/// One field or several, of which the last may be all from one on.
+fn fields_of(alloc: Global, number: usize, parts: &mut Vec<Token>) -> Result<Fields, QueryFault> {
+    if !take_word(parts, "field") {
+        return Err(QueryFault::NoField(number));
+    }
+    let mut indexes = Vec::new(alloc);
+    let mut rest = None;
+    for _ in 0..parts.len() {
+        if !has_digit(parts) {
+            break;
+        }
+        let Some(words) = next_word(parts) else {
+            break;
+        };
+        for word in words.as_str().split(",") {
+            if rest.is_some() {
+                return Err(QueryFault::NoField(number));
+            }
+            rest = add_fields(number, word, &mut indexes)?;
+        }
+    }
+    if indexes.is_empty() && rest.is_none() {
+        return Err(QueryFault::NoField(number));
+    }
+    Ok(Fields {
+        indexes,
+        rest,
+        separator: separator_of(number, parts)?,
+    })
+}
+
+/// Adds what a word like `2`, `2-4` or `3-` asks for: returns the index from which on all follows, if it does.
+fn add_fields(
+    number: usize,
+    word: &str,
+    indexes: &mut Vec<u64>,
+) -> Result<Option<u64>, QueryFault> {
+    let Some((first, last)) = word.split_once("-") else {
+        indexes.push(index_in(number, word)?)?;
+        return Ok(None);
+    };
+    let first = index_in(number, first)?;
+    if last.is_empty() {
+        return Ok(Some(first));
+    }
+    let last = index_in(number, last)?;
+    if last < first || last - first >= MOST_FIELDS {
+        return Err(QueryFault::FieldRange(number));
+    }
+    for index in first..last {
+        indexes.push(index)?;
+    }
+    indexes.push(last)?;
+    Ok(None)
+}
+
+/// The index of a field, whose number counts from 1.
+fn index_in(number: usize, digits: &str) -> Result<u64, QueryFault> {
+    match digits.parse::<u64>() {
+        Err(_) | Ok(0) => Err(QueryFault::NoField(number)),
+        Ok(count) => Ok(count - 1),
+    }
+}
+
+/// The index of a field, whose number counts from 1.
+fn index_of(number: usize, parts: &mut Vec<Token>) -> Result<u64, QueryFault> {
+    match next_number(parts) {
+        None | Some(0) => Err(QueryFault::NoField(number)),
+        Some(count) => Ok(count - 1),
+    }
 }
 
 /// What stands after a field's number: a separator, or something else.
@@ -148,7 +314,7 @@ fn separator_of(number: usize, parts: &mut Vec<Token>) -> Result<Separator, Quer
         return Err(QueryFault::Separator(number));
     };
     match text.as_bytes() {
-        [byte] => Ok(Separator::Byte(*byte)),
+        [byte] if *byte != b'\n' => Ok(Separator::Byte(*byte)),
         _ => Err(QueryFault::Separator(number)),
     }
 }
@@ -185,10 +351,14 @@ fn take_word(parts: &mut Vec<Token>, wanted: &str) -> bool {
     is_there
 }
 
-fn next_is(parts: &mut Vec<Token>, wanted: &str) -> bool {
-    match next_word(parts) {
-        Some(word) => word.as_str() == wanted,
-        None => false,
+/// Whether a word comes next that begins with a digit.
+fn has_digit(parts: &Vec<Token>) -> bool {
+    match parts.last() {
+        Some(Token::Word(word)) => match word.as_bytes().first() {
+            Some(byte) => byte.is_ascii_digit(),
+            None => false,
+        },
+        _ => false,
     }
 }
 

@@ -23,7 +23,7 @@ pub enum QueryFault {
     #[error("step {0} is empty")]
     NoStep(usize),
     /// A step has another name.
-    #[error("step {0} is none of filter, select, take, skip, take_while and skip_while")]
+    #[error("step {0} is none of filter, select, take, skip, take_while, skip_while, distinct and count")]
     UnknownStep(usize),
     /// A filter, take_while or skip_while has no test.
     #[error("step {0} wants contains, starts_with, ends_with, is or matches, with or without not before it")]
@@ -40,12 +40,21 @@ pub enum QueryFault {
     /// A select has no field, or a field no number.
     #[error("step {0}: field wants a number from 1 on, as in select field 2")]
     NoField(usize),
-    /// A separator isn't one byte.
-    #[error("step {0}: by wants a text of one byte, as by \",\" or by \"\\t\"")]
+    /// A range of fields has none, or too many.
+    #[error("step {0}: a range of fields has its first one first, and at most 1,000")]
+    FieldRange(usize),
+    /// A separator isn't one byte, or is a line feed.
+    #[error("step {0}: by wants a text of one byte that isn't a line feed, as by \",\" or by \"\\t\"")]
     Separator(usize),
     /// A take or a skip has no number.
     #[error("step {0}: take and skip want a number of lines")]
     NoNumber(usize),
+    /// A count or a distinct doesn't say by what.
+    #[error("step {0}: by wants line or a field, as in count by field 2")]
+    NoKey(usize),
+    /// A step follows a count.
+    #[error("step {0} follows a count, which is the last step of a query")]
+    AfterCount(usize),
     /// Something follows a whole step.
     #[error("step {0} goes on after its end: a bar parts two steps")]
     TooLong(usize),

@@ -7,11 +7,16 @@ use std::alloc::{AllocError, Global};
 const AFTER_HELP: &str = r#"A query is one or more steps, parted by bars:
   filter [not] [field N [by TEXT]] contains|starts_with|ends_with|is|matches TEXT
            lets a line pass by its text, or by a field of it
-  select field N [by TEXT]   puts a field in the line's place, counted from 1: between blanks, or by one byte
+  select field N.. [by TEXT]   puts fields in the line's place, counted from 1: between blanks, or by one byte;
+           several as 1 3, 1,3 or 2-4, and a last N- is the text from that field on
   take N   ends after so many lines
   skip N   leaves out so many first lines
   take_while .. TEXT   ends before the first line that fails the test, which is one as filter has it
   skip_while .. TEXT   leaves out the lines before that one
+  distinct [by line|field N.. [by TEXT]]   leaves out a line that came before, or whose fields did
+  count   as the last step: writes how many lines there are
+  count by line|field N.. [by TEXT]   writes how often each line or field comes: the count, a tab, the text, in the order in which
+           they came first
 A TEXT stands in double quotes, in which \" \\ \t and \r are a quote, a backslash, a tab and a carriage return. Without blanks,
 quotes and bars it needs none. That of matches is a regular expression with the syntax of Rust's regex, and its backslashes are
 those of the expression. Steps look at bytes, so any file will do. A line feed ends a line, and stays as it is.

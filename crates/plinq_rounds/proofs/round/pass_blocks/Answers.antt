@@ -10,6 +10,7 @@ pub loop-block-init : goal.loop-block-init
 loop-block-init c = record {
   made = c.new-passed.ensures.items ∙ sym (ap written (answer-nil c.args.steps.now));
   left = sym (left-nil c.args.steps.now);
+  kept = c.requires;
 }
 
 pub loop-block-preserved : goal.loop-block-preserved
@@ -38,7 +39,11 @@ loop-block-preserved c =
           ∙ ap (λ x. left x (lines_of block)) c.loop-block.invariant.left
           ∙ sym (left-append ss before (lines_of block))
           ∙ ap (left ss) (sym more);
+      kept = c.in_ok-pass_lines.ensures.kept;
     }
+
+pub pass_lines-requires : goal.pass_lines-requires
+pass_lines-requires c = c.loop-block.invariant.kept
 
 pub returns : goal.returns
 returns c =
@@ -47,4 +52,5 @@ returns c =
     record {
       made = c.loop-block.invariant.made ∙ ap (λ ls. written (answer c.args.steps.now ls)) all;
       left = c.loop-block.invariant.left ∙ ap (left c.args.steps.now) all;
+      kept = c.loop-block.invariant.kept;
     }

@@ -1,6 +1,10 @@
+use Rattle.plinq_text.specs.StepPatterns.{ArePatternsOf}
 use Rattle.plinq_rounds.proofs.Streaming.{Streamed}
 use Rattle.plinq_rounds.proofs.stream.answer_lines.Given as goal
 
 abbrev pub invariant-loop : goal.invariant-loop
-invariant-loop g l =
-    Streamed l.fn.steps (g.I.Read.remaining l.fn.reader) (g.I.Read.remaining l.reader) (g.W.Write.contents l.fn.out) (g.W.Write.contents l.out) l.buffer l.steps
+invariant-loop g l = record {
+  streamed : Streamed l.fn.steps (g.I.Read.remaining l.fn.reader) (g.I.Read.remaining l.reader) (g.W.Write.contents l.fn.out)
+      (g.W.Write.contents l.out) l.buffer l.steps;
+  patterns : ArePatternsOf l.steps l.patterns.items;
+}

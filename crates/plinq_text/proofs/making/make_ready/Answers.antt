@@ -1,4 +1,4 @@
-use Rattle.std.proofs.Common.{All, ◌++◌, append_assoc, append-nil, ap, sym, subst, ◌∙◌}
+use Rattle.std.proofs.Common.{◌≡◌, All, ◌++◌, append_assoc, append-nil, ap, sym, subst, ◌∙◌}
 use Rattle.plinq_text.specs.Lines.{Line, lines_of, written}
 use Rattle.plinq_text.specs.inner.Ready.{IsReady, row_ready}
 use Rattle.plinq_text.specs.Steps.{bytes_of, made_lines}
@@ -13,19 +13,19 @@ loop-line-preserved c =
     let end = c.in-Some.line.end.now in
     let later = written (made_lines f (lines_of c.in-Some.line.rest.now)) in
     let line : Line = record { text = text; end = end } in
-    let does = c.through.ensures.does ∙ ap (λ ss. row_ready ss text) c.loop-line.invariant.steps in
+    let made : c.put_through.new.out.items ≡ out ++ bytes_of (f text) end =
+    c.in_ok-put_through.ensures.made ∙ ap (λ ss. out ++ bytes_of (row_ready ss text) end) c.loop-line.invariant.steps in
     record {
       made = c.loop-line.invariant.made
           ∙ ap (λ ls. out ++ written (made_lines f ls)) c.in-Some.ensures.0
           ∙ ap (λ b. out ++ b) (written-cons (f text) line (made_lines f (lines_of c.in-Some.line.rest.now)))
-          ∙ ap (λ o. out ++ (bytes_of o end ++ later)) (sym does)
-          ∙ sym (append_assoc out _ later)
-          ∙ ap (λ b. b ++ later) (sym c.in_ok-put_line.ensures);
-      steps = c.through.ensures.same ∙ c.loop-line.invariant.steps;
+          ∙ sym (append_assoc out (bytes_of (f text) end) later)
+          ∙ ap (λ b. b ++ later) (sym made);
+      steps = c.put_through.ensures.same ∙ c.loop-line.invariant.steps;
     }
 
-pub through-requires : goal.through-requires
-through-requires c = subst (All IsReady) (sym c.loop-line.invariant.steps) c.requires
+pub put_through-requires : goal.put_through-requires
+put_through-requires c = subst (All IsReady) (sym c.loop-line.invariant.steps) c.requires
 
 pub returns : goal.returns
 returns c =

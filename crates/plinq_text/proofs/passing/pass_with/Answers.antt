@@ -1,5 +1,5 @@
 use Rattle.std.proofs.Common.{◌≡◌, ◌++◌, append_assoc, append-nil, ap, sym, subst, ◌∙◌}
-use Rattle.plinq_text.specs.inner.Searchers.{AreSearchers}
+use Rattle.plinq_text.specs.StepPatterns.{ArePatternsOf}
 use Rattle.plinq_text.specs.Lines.{Line, lines_of, written}
 use Rattle.plinq_text.specs.Steps.{answer, bytes_of, left, row_after, row_does}
 use Rattle.plinq_text.proofs.StepLaws.{answer-cons, answer-nil, left-cons, left-nil, written-cons}
@@ -14,7 +14,7 @@ loop-line-preserved c =
     let end = c.in-Some.line.end.now in
     let rest = lines_of c.in-Some.line.rest.now in
     let later = written (answer after rest) in
-    let later_is : written (answer (row_after steps text) rest) ≡ later = ap (λ ss. written (answer ss rest)) (sym c.pass_line.ensures.after) in
+    let later_is : written (answer (row_after steps text) rest) ≡ later = ap (λ ss. written (answer ss rest)) (sym c.in_ok-pass_line.ensures.after) in
     let line : Line = record { text = text; end = end } in
     record {
       made = c.loop-line.invariant.made
@@ -23,13 +23,13 @@ loop-line-preserved c =
           ∙ ap (λ b. out ++ b) (written-cons (row_does steps text) line (answer (row_after steps text) rest))
           ∙ ap (λ b. out ++ (bytes_of (row_does steps text) end ++ b)) later_is
           ∙ sym (append_assoc out (bytes_of (row_does steps text) end) later)
-          ∙ ap (λ o. (out ++ bytes_of o end) ++ later) (sym c.pass_line.ensures.does)
-          ∙ ap (λ b. b ++ later) (sym c.in_ok-put_line.ensures);
+          ∙ ap (λ b. b ++ later) (sym c.in_ok-pass_line.ensures.made);
       left = c.loop-line.invariant.left
           ∙ ap (left steps) c.in-Some.ensures.0
           ∙ left-cons steps line rest
-          ∙ ap (λ ss. left ss rest) (sym c.pass_line.ensures.after);
-      searchers = subst (AreSearchers after) (sym c.pass_line.ensures.same) c.pass_line.ensures.kept;
+          ∙ ap (λ ss. left ss rest) (sym c.in_ok-pass_line.ensures.after);
+      searchers = subst (ArePatternsOf after) (sym c.pass_line.ensures.same) c.in_ok-pass_line.ensures.kept;
+      same = c.pass_line.ensures.same ∙ c.loop-line.invariant.same;
     }
 
 pub returns : goal.returns
@@ -41,4 +41,5 @@ returns c =
       made = sym (c.loop-line.invariant.made ∙ ap (λ ls. out ++ written (answer steps ls)) none ∙ ap (λ ls. out ++ written ls) (answer-nil steps)
           ∙ append-nil out);
       left = sym (c.loop-line.invariant.left ∙ ap (left steps) none ∙ left-nil steps);
+      kept = subst (ArePatternsOf steps) c.loop-line.invariant.same c.loop-line.invariant.searchers;
     }

@@ -1,5 +1,5 @@
 use Rattle.std.proofs.Common.{◌≡◌, ◌++◌, length}
-use Rattle.plinq_text.specs.inner.Searchers.{AreSearchers}
+use Rattle.plinq_text.specs.StepPatterns.{ArePatternsOf}
 use Rattle.plinq_text.specs.Lines.{lines_of, written}
 use Rattle.plinq_text.specs.Steps.{answer, answer_text, left}
 use Rattle.plinq_text.proofs.passing.pass_with.Given as goal
@@ -8,7 +8,8 @@ abbrev pub invariant-loop-line : goal.invariant-loop-line
 invariant-loop-line l = record {
   made : l.fn.out.items ++ answer_text l.fn.steps l.text ≡ l.out.items ++ written (answer l.steps (lines_of l.rest));
   left : left l.fn.steps (lines_of l.text) ≡ left l.steps (lines_of l.rest);
-  searchers : AreSearchers l.steps l.searchers;
+  searchers : ArePatternsOf l.steps l.searchers;
+  same : l.searchers ≡ l.fn.searchers;
 }
 
 abbrev pub decreases-loop-line : goal.decreases-loop-line

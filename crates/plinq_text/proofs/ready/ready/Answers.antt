@@ -1,8 +1,10 @@
-use Rattle.std.proofs.Common.{rules, All, ◌++◌, ◌∷◌, [], take, take_all, ap, sym, subst, ◌∙◌}
+use Rattle.std.proofs.Common.{rules, arith, ◌<◌, length, All, subst₂, ◌++◌, ◌∷◌, [], take, take_all, ap, sym, subst, ◌∙◌}
 use Rattle.std.proofs.lemmas.List.{take_more}
 use Rattle.std.proofs.lemmas.List.Elements.{All-push}
 use Rattle.plinq_text.specs.inner.Ready.{IsReady, row_ready}
+use Rattle.plinq_text.specs.StepPatterns.{IsPatternOf}
 use Rattle.plinq_text.specs.Steps.{row_does}
+use Rattle.plinq_text.proofs.StepPatternLaws.{as-many, own-pattern}
 use Rattle.plinq_text.proofs.StepLaws.{row_nil, rows-agree}
 use Rattle.plinq_text.proofs.ready.ready.Goals as goal
 
@@ -27,6 +29,20 @@ loop-i-preserved c =
           ∙ ap (λ xs. row_does xs text) (sym more);
       ready = subst (All IsReady) (sym c.in_ok-push.ensures.items) (All-push IsReady made _ c.loop-i.invariant.ready c.in_ok-ready_step.ensures.ready);
     }
+
+pub offset_bounds-patterns-i : goal.offset_bounds-patterns-i
+offset_bounds-patterns-i c =
+    let enough = as-many c.args.steps.now c.args.patterns.now c.requires in
+    let within : c.loop-i.i < length c.args.patterns.now = omega (enough, c.loop-i-test.true, arith) in
+    search (rules, within)
+
+pub bounds-patterns-i : goal.bounds-patterns-i
+bounds-patterns-i c = let enough = as-many c.args.steps.now c.args.patterns.now c.requires in omega (enough, c.loop-i-test.true, arith)
+
+pub ready_step-requires : goal.ready_step-requires
+ready_step-requires c =
+    subst₂ IsPatternOf (sym c.index-steps-i.is) (sym c.index-patterns-i.is)
+    (own-pattern c.args.steps.now c.args.patterns.now c.loop-i.i _ _ c.requires c.loop-i-test.true)
 
 pub returns-clause-same : goal.returns-clause-same
 returns-clause-same c = λ text. c.loop-i.invariant.same text ∙ ap (λ xs. row_does xs text) (take_all c.loop-i.i c.args.steps.now c.loop-i-test.false)

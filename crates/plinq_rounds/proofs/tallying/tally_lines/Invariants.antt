@@ -1,0 +1,9 @@
+use Rattle.plinq_text.specs.StepPatterns.{ArePatternsOf}
+use Rattle.plinq_rounds.proofs.TallyingLaws.{Tallied}
+use Rattle.plinq_rounds.proofs.tallying.tally_lines.Given as goal
+
+abbrev pub invariant-loop : goal.invariant-loop
+invariant-loop g l = record {
+  tallied : Tallied l.fn.steps (g.I.Read.remaining l.fn.reader) (g.I.Read.remaining l.reader) l.fn.tally l.tally l.buffer l.steps;
+  patterns : ArePatternsOf l.steps l.patterns.items;
+}

@@ -1,0 +1,48 @@
+-- The patterns of the tests of steps.
+use Rattle.std.specs.Prelude.{◌≡◌, ℕ, ◌||◌, Bool, false, List, [], ◌∷◌, Option, Some, None, is_some, string_bytes, ⊤}
+use Rattle.plinq_text.specs.declared.line_step.LineStep.{LineStep}
+use Rattle.plinq_text.specs.declared.line_step.LineStep.TheVariants.{Filter, Select, Take, Skip, TakeWhile, SkipWhile, Distinct}
+use Rattle.plinq_text.specs.declared.line_test.LineTest.{LineTest}
+use Rattle.plinq_text.specs.declared.line_test.TestKind.{TestKind}
+use Rattle.plinq_text.specs.declared.line_test.TestKind.TheVariants.{Contains, StartsWith, EndsWith, Is, Matches}
+
+-- the pattern of a comparison, if it has one
+abbrev pub pattern_for : TestKind → List ℕ → Option (List ℕ)
+pattern_for Contains wanted = None
+pattern_for StartsWith wanted = None
+pattern_for EndsWith wanted = None
+pattern_for Is wanted = None
+pattern_for Matches wanted = Some wanted
+
+abbrev pub pattern_of : LineTest → Option (List ℕ)
+pattern_of t = pattern_for t.kind (string_bytes t.text)
+
+abbrev pub pattern_of_step : LineStep → Option (List ℕ)
+pattern_of_step (Filter t) = pattern_of t
+pattern_of_step (Select f) = None
+pattern_of_step (Take n) = None
+pattern_of_step (Skip n) = None
+pattern_of_step (TakeWhile t) = pattern_of t
+pattern_of_step (SkipWhile t) = pattern_of t
+pattern_of_step (Distinct k) = None
+
+-- this is the pattern of a step's test, if it has one
+abbrev pub IsPatternOf : LineStep → Option (List ℕ) → Type 0
+IsPatternOf (Filter t) pattern = pattern ≡ pattern_of t
+IsPatternOf (Select f) pattern = ⊤
+IsPatternOf (Take n) pattern = ⊤
+IsPatternOf (Skip n) pattern = ⊤
+IsPatternOf (TakeWhile t) pattern = pattern ≡ pattern_of t
+IsPatternOf (SkipWhile t) pattern = pattern ≡ pattern_of t
+IsPatternOf (Distinct k) pattern = ⊤
+
+-- these are the patterns of the tests of steps
+unfoldable pub ArePatternsOf : List LineStep → List (Option (List ℕ)) → Type 0
+ArePatternsOf [] all = ⊤
+ArePatternsOf (s ∷ ss) [] = ⊥
+ArePatternsOf (s ∷ ss) (p ∷ all) = IsPatternOf s p × ArePatternsOf ss all
+
+-- whether there is a pattern among these
+abbrev pub has_pattern : List (Option (List ℕ)) → Bool
+has_pattern [] = false
+has_pattern (p ∷ all) = is_some p || has_pattern all
