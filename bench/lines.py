@@ -26,6 +26,10 @@ WORK = {
     "lines by their third field": ("filter field 3 is error", [["mawk", "$3 == \"error\""]]),
     "the third field between blanks": ("select field 3", [["mawk", "{print $3}"]]),
     "the third field by one byte": ("select field 3 by \" \"", [["cut", "-d", " ", "-f", "3"], ["mawk", "-F", "[ ]", "{print $3}"]]),
+    "the fields three and one": ("select field 3 1", [["mawk", "{print $3, $1}"]]),
+    "the first line of each third field": ("distinct by field 3", [["mawk", "!n[$3]++"]]),
+    "how many lines have a text": ("filter contains error | count", [["rg", "-c", "error"], ["grep", "-c", "error"], ["mawk", "/error/ {n++} END {print n}"]]),
+    "how often each third field comes": ("count by field 3", [["mawk", "{n[$3]++} END {for (k in n) print n[k], k}"]]),
     "all but the first million lines": ("skip 1000000", [["tail", "-n", "+1000001"]]),
 }
 
