@@ -1,5 +1,5 @@
 -- Fields have no byte that their text has not.
-use Rattle.std.proofs.Common.{◌≡◌, ℕ, zero, suc, ◌+◌, ◌==◌, Bool, true, false, not, if◌then◌else◌, List, [], ◌∷◌, ◌++◌, take, drop, refl, ap}
+use Rattle.std.proofs.Common.{◌≡◌, ℕ, zero, suc, ◌+◌, ◌==◌, Bool, true, false, not, if◌then◌else◌, List, [], ◌∷◌, ◌++◌, take, drop, refl, ap, sym, ◌∙◌}
 use Rattle.std.specs.Prelude.{⊤}
 use Rattle.std.specs.List.{prefix_len}
 use Rattle.std.proofs.Common.{Option, Some, None, length, arith, le_refl}
@@ -12,6 +12,7 @@ use Rattle.plinq_text.specs.declared.line_step.Separator.TheVariants.{Blanks, By
 use Rattle.plinq_text.specs.Fields.{is_blank, place_of, column, after_blanks, word, field_between, fields, fields_of, from_column}
 use Rattle.plinq_text.specs.Fields.{from_field, from_word, further, glue, joined, rest}
 use Rattle.plinq_text.specs.Lines.{is_text, line_feed}
+use Rattle.plinq_text.specs.inner.FirstFields.{first_field}
 
 is_text-take : (n : ℕ) (text : List ℕ) → is_text text ≡ true → is_text (take n text) ≡ true
 is_text-take zero text is = refl
@@ -153,3 +154,45 @@ pub word-from : (n : ℕ) (text : List ℕ) → word n text ≡ take (place_of i
 unfolding word from_word
 word-from zero text = refl
 word-from (suc n) text = word-from n _
+
+pub field-from : (s : Separator) (n : ℕ) (text : List ℕ) → field_between s n text ≡ first_field s (from_field s n text)
+field-from Blanks n text = word-from n text
+field-from (Byte byte) n text = column-from byte n text
+
+-- no blank stands in front of a text without them
+none-before : (text : List ℕ) → prefix_len is_blank (after_blanks text) ≡ 0
+none-before [] = refl
+none-before (b ∷ rest) = by (is_blank b) refl (none-before rest)
+  where
+    by : (is : Bool) → is_blank b ≡ is → prefix_len is_blank (after_blanks rest) ≡ 0
+        → prefix_len is_blank (drop (if is then 1 + prefix_len is_blank rest else 0) (b ∷ rest)) ≡ 0
+    by true is later = let on : 1 + prefix_len is_blank rest ≡ suc (prefix_len is_blank rest) = omega arith in
+        ap (λ n. prefix_len is_blank (drop n (b ∷ rest))) on ∙ later
+    by false is later = ap (λ x. if x then 1 + prefix_len is_blank rest else 0) is
+
+after-twice : (text : List ℕ) → after_blanks (after_blanks text) ≡ after_blanks text
+after-twice text = ap (λ n. drop n (after_blanks text)) (none-before text)
+
+column-on : (byte a b : ℕ) (text : List ℕ) → from_column byte (a + b) text ≡ from_column byte b (from_column byte a text)
+unfolding from_column
+column-on byte zero b text = let on : zero + b ≡ b = omega arith in ap (λ n. from_column byte n text) on
+column-on byte (suc a) b text =
+    let on : suc a + b ≡ suc (a + b) = omega arith in
+    ap (λ n. from_column byte n text) on ∙ column-on byte a b _
+
+past-blanks : (n : ℕ) (text : List ℕ) → from_word n (after_blanks text) ≡ from_word n text
+unfolding from_word
+past-blanks zero text = after-twice text
+past-blanks (suc n) text = ap (λ t. from_word n (drop (place_of is_blank t) t)) (after-twice text)
+
+word-on : (a b : ℕ) (text : List ℕ) → from_word (a + b) text ≡ from_word b (from_word a text)
+unfolding from_word
+word-on zero b text = let on : zero + b ≡ b = omega arith in ap (λ n. from_word n text) on ∙ sym (past-blanks b text)
+word-on (suc a) b text =
+    let on : suc a + b ≡ suc (a + b) = omega arith in
+    ap (λ n. from_word n text) on ∙ word-on a b _
+
+-- from one field on, and then so many further
+pub field-on : (s : Separator) (a b : ℕ) (text : List ℕ) → from_field s (a + b) text ≡ from_field s b (from_field s a text)
+field-on Blanks a b text = word-on a b text
+field-on (Byte byte) a b text = column-on byte a b text

@@ -1,3 +1,4 @@
 -- Words that no public contract reaches: private contracts and proofs cite them.
+pub mod FirstFields
 pub mod Outcomes
 pub mod Ready

@@ -1,9 +1,9 @@
-ghost use Rattle.std.specs.Prelude.{◌≡◌, ◌≤◌, ◌+◌, ◌==◌, ◌++◌, IfOk, take, drop, length};
+ghost use Rattle.std.specs.Prelude.{◌≡◌, ◌≤◌, ◌+◌, ◌==◌, ◌++◌, Some, IfOk, take, drop, length};
 ghost use Rattle.std.specs.List.{prefix_len};
-ghost use Rattle.plinq_text.specs.Fields.{after_blanks, column, field_between, field_of, fields, fields_of, from_column, from_field};
-ghost use Rattle.plinq_text.specs.Fields.{from_word, further, glue, is_blank, place_of, rest, word};
+ghost use Rattle.plinq_text.specs.Fields.{after_blanks, field_between, field_of, fields, fields_of, from_column, from_field, from_word};
+ghost use Rattle.plinq_text.specs.Fields.{further, glue, is_blank, place_of, rest};
+ghost use Rattle.plinq_text.specs.inner.FirstFields.{first_field};
 ghost use Rattle.plinq_text.specs.inner.Outcomes.{text_of};
-ghost use Rattle.std.specs.Prelude.{Some};
 
 use crate::line_step::{Field, Fields, Separator};
 use crate::outcome::{Outcome, Spares};
@@ -22,9 +22,16 @@ pub(crate) fn field(text: &[u8], which: Field) -> &[u8]
 fn field_between(text: &[u8], separator: Separator, index: u64) -> &[u8]
     ensures { result.now ≡ field_between separator index text.now }
 {
+    first_field(from_field(text, separator, index), separator)
+}
+
+/// The field that stands first in a text that begins with one.
+fn first_field(text: &[u8], separator: Separator) -> &[u8]
+    ensures { result.now ≡ first_field separator text.now }
+{
     match separator {
-        Separator::Blanks => word(text, index),
-        Separator::Byte(byte) => column(text, byte, index),
+        Separator::Blanks => &text[..word_len(text)],
+        Separator::Byte(byte) => before(text, byte),
     }
 }
 
@@ -65,7 +72,7 @@ pub(crate) fn select<'t>(
     }
 }
 
-/// Appends further fields, each after what stands between two.
+/// Appends further fields, each after what stands between two. One that comes after the last is looked for from there on.
 fn put_further(
     text: &[u8],
     separator: Separator,
@@ -74,11 +81,32 @@ fn put_further(
 ) -> Result<(), AllocError>
     ensures { IfOk result (λ _. out.new.items ≡ out.old.items ++ further separator (fields separator indexes.now text.now)) }
 {
+    let mut last = 0;
+    let mut from = from_field(text, separator, 0);
     for index in indexes {
+        from = go_on(text, separator, last, from, *index);
+        last = *index;
         out.push(glue(separator))?;
-        out.extend_from_slice(field_between(text, separator, *index))?;
+        out.extend_from_slice(first_field(from, separator))?;
     }
     Ok(())
+}
+
+/// A text from a field on, of which it is known what it is from the last one on.
+fn go_on<'t>(
+    text: &'t [u8],
+    separator: Separator,
+    last: u64,
+    from: &'t [u8],
+    index: u64,
+) -> &'t [u8]
+    requires { from.now ≡ from_field separator last text.now }
+    ensures { result.now ≡ from_field separator index text.now }
+{
+    if index < last {
+        return from_field(text, separator, index);
+    }
+    from_field(from, separator, index - last)
 }
 
 /// Appends the text from a field on, after what stands between two, if that is asked for.
@@ -106,12 +134,6 @@ fn glue(separator: Separator) -> u8
     }
 }
 
-fn column(text: &[u8], byte: u8, index: u64) -> &[u8]
-    ensures { result.now ≡ column byte index text.now }
-{
-    before(from_column(text, byte, index), byte)
-}
-
 fn from_column(text: &[u8], byte: u8, index: u64) -> &[u8]
     ensures { result.now ≡ from_column byte index text.now }
 {
@@ -123,13 +145,6 @@ fn from_column(text: &[u8], byte: u8, index: u64) -> &[u8]
         rest = after(rest, byte);
     }
     rest
-}
-
-fn word(text: &[u8], index: u64) -> &[u8]
-    ensures { result.now ≡ word index text.now }
-{
-    let at = from_word(text, index);
-    &at[..word_len(at)]
 }
 
 fn from_word(text: &[u8], index: u64) -> &[u8]
