@@ -30,6 +30,8 @@ WORK = {
     "the first line of each third field": ("distinct by field 3", [["mawk", "!n[$3]++"]]),
     "how many lines have a text": ("filter contains error | count", [["rg", "-c", "error"], ["grep", "-c", "error"], ["mawk", "/error/ {n++} END {print n}"]]),
     "how often each third field comes": ("count by field 3", [["mawk", "{n[$3]++} END {for (k in n) print n[k], k}"]]),
+    "lines whose number is above 900": ("filter field 5 > 900", [["mawk", "$5 > 900"]]),
+    "the sum of a field by another": ("sum field 5 by field 3", [["mawk", "{n[$3] += $5} END {for (k in n) print n[k], k}"]]),
     "all but the first million lines": ("skip 1000000", [["tail", "-n", "+1000001"]]),
 }
 
@@ -38,7 +40,7 @@ def log(path):
     by = random.Random(1)
     lines = []
     for _ in range(100_000):
-        words = [by.choice(WORDS) for _ in range(14)] + (["disk_full"] if by.random() < 0.001 else [])
+        words = [by.choice(WORDS) for _ in range(2)] + [str(by.randrange(1_000))] + [by.choice(WORDS) for _ in range(11)] + (["disk_full"] if by.random() < 0.001 else [])
         lines.append(f"2026-12-01T08:{by.randrange(60):02}:{by.randrange(60):02} host{by.randrange(9)} {' '.join(words)}\n")
     with open(path, "w", encoding="ascii") as file:
         for _ in range(25):

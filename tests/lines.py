@@ -324,15 +324,17 @@ def files(tests, folder):
 
 def mistakes(tests):
     end = "\n\nFor more information, try '--help'.\n"
-    wants_a_test = "step 1 wants contains, starts_with, ends_with, is or matches, with or without not before it"
+    wants_a_test = "step 1 wants contains, starts_with, ends_with, is, matches or is_number, or a comparison like < or above, with or without not before it"
+    unknown = "none of filter, select, take, skip, take_while, skip_while, distinct, count, sum, min, max and mean"
+    follows = "step 2 follows the last step of a query: count, sum, min, max and mean end it"
     wants_a_byte = 'step 1: by wants a text of one byte that isn\'t a line feed, as by "," or by "\\t"'
     wants_a_number = "step 1: field wants a number from 1 on, as in select field 2"
     for query, said in (
         ("", "step 1 is empty"),
         ("take 1 |", "step 2 is empty"),
         ("| take 1", "step 1 is empty"),
-        ("find x", "step 1 is none of filter, select, take, skip, take_while, skip_while, distinct and count"),
-        ('take 1 | "filter" is x', "step 2 is none of filter, select, take, skip, take_while, skip_while, distinct and count"),
+        ("find x", f"step 1 is {unknown}"),
+        ('take 1 | "filter" is x', f"step 2 is {unknown}"),
         ("filter", wants_a_test),
         ("filter not", wants_a_test),
         ("filter finds x", wants_a_test),
@@ -383,8 +385,8 @@ def mistakes(tests):
         ("distinct by field 0", wants_a_number),
         ("take 3 | count by field", wants_a_number.replace("step 1", "step 2")),
         ("count by line 2", "step 1 goes on after its end: a bar parts two steps"),
-        ("count | take 1", "step 2 follows a count, which is the last step of a query"),
-        ("count by line | count", "step 2 follows a count, which is the last step of a query"),
+        ("count | take 1", follows),
+        ("count by line | count", follows),
         ('filter contains "x', "a text has no closing quote"),
         ('filter contains "x\\', "a text has no closing quote"),
         ('filter contains "\\x"', 'a backslash in a text stands before ", \\, t or r'),
@@ -423,6 +425,11 @@ def streams(tests, folder):
     limited = ["bash", "-c", "ulimit -t 20; exec \"$0\" lines --workers 1 'filter not contains x'", PLINQ]
     seen = subprocess.run(limited, input=b"x" * 128_000_000, capture_output=True, timeout=HANGS)
     tests.check("a line of 128 MB in linear time", (seen.returncode, seen.stdout, seen.stderr) == (0, b"", b""), str(seen)[-200:])
+    # (If each field were looked for from the line's start, this would take 7 seconds of processor time.)
+    wide = b"".join(b" ".join(b"%d" % it for it in range(row, row + 1_000)) + b"\n" for row in range(2_000))
+    for query in ("select field 1-1000", "select field 1,2-1000,1", "count by field 1-1000"):
+        seen = subprocess.run(["bash", "-c", "ulimit -t 3; exec \"$0\" lines --workers 1 \"$1\"", PLINQ, query], input=wide, capture_output=True, timeout=HANGS)
+        tests.check(f"{query} in linear time", (seen.returncode, seen.stderr) == (0, b"") and len(seen.stdout) >= len(wide), str(seen)[-200:])
     # (If each read compiled this pattern, that alone would take 20 seconds of processor time.)
     limited = ["bash", "-c", "ulimit -t 10; exec \"$0\" lines 'filter matches \"(\\w{1,40} ){10}x\"'", PLINQ]
     seen = subprocess.run(limited, input=(b"-" * 999 + b"\n") * 128_000, capture_output=True, timeout=HANGS)
@@ -495,7 +502,7 @@ def of_examples(tests):
     seen = run(["lines", query, log])
     tests.check("README.md's example prints what stands there", seen == Outcome(0, b"2026-12-01T08:00:05\n2026-12-01T08:01:15\n", b""), str(seen))
     rows = [re.fullmatch(r"\| (.*?) \| `(.*?)` \| `(.*?)` \|", row) for row in page.splitlines()[1:]]
-    tests.check("the table of lines has its rows", len(rows) >= 28 and all(rows), page)
+    tests.check("the table of lines has its rows", len(rows) >= 40 and all(rows), page)
     for row in filter(None, rows):
         name, query, command = (it.replace("\\|", "|") for it in row.groups())
         theirs = subprocess.run(["bash", "-c", f"{command} {log!r}"], capture_output=True, env=os.environ | {"LC_ALL": "C"}, timeout=HANGS)

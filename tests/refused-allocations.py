@@ -61,8 +61,10 @@ WRONG_AT_ITS_END = document({"list": list(range(9))}, x=[1]), document({"text": 
 DONE_WITHOUT = 1
 # Lines in one block, and in three, of which each is longer than a block has to be.
 FEW_LINES = b"a x\nb\nc x y\n"
+NUMBERED_LINES = b"a 1\nb 2.5\na -3\n"
 MANY_LINES = b"".join(b"%d x y\n" % it * 30 for it in range(3_000))
 OF_LINES = ("filter contains x | select field 2", 'skip 1 | filter not is "b"', "take 2", "take_while contains x", 'filter field 2 matches "^[xy]"', "skip 1 | filter not matches b | take 2", "select field 2 1-", "count", "filter contains x | count by field 2 1", "skip 1 | count by line", "distinct by field 2 1 | take 1")
+OF_NUMBERS = ("filter field 2 > 1", "skip 1 | take_while not field 2 above 3", "sum field 2", "max field 2 by field 1", "filter field 2 is_number | mean field 2")
 CASES = (
     [(words, it) for it in ANSWERED for words in (["run", "--workers", "2", "--merge", "not"], ["run", "--workers", "1"], ["run", "--workers", "8"], ["seq"], ["plan", "--workers", "2"], ["parts"], ["history", "--workers", "2"])]
     + [(["run", "--workers", workers, "--merge", "not"], SEVENTEEN) for workers in ("1", "2")]
@@ -73,6 +75,7 @@ CASES = (
     # (of so long a range the close may not be forgotten that finds no room for its record: it is tried again)
     + [(["run", "--workers", "1", "--merge", "not"], document({"range": [0, 2**40]}, ["take", it], growth=[1, 1, 1])) for it in (4, 8)]
     + [(["lines", "--workers", workers, query], FEW_LINES) for workers in ("1", "2") for query in OF_LINES]
+    + [(["lines", "--workers", workers, query], NUMBERED_LINES) for workers in ("1", "2") for query in OF_NUMBERS]
     + [(["lines", "--workers", workers, OF_LINES[0]], MANY_LINES) for workers in ("1", "2")]
     + [(["lines", "find"], FEW_LINES), (["lines"], FEW_LINES), (["lines", "--help"], b"")]
     + [(["run"], it) for it in REFUSED]

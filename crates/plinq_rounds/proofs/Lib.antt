@@ -1,4 +1,5 @@
 mod BlockLaws
+mod Coming
 mod PassLaws
 mod Streaming
 mod TallyingLaws

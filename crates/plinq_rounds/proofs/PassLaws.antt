@@ -1,24 +1,81 @@
 -- What is written before a flush, and lines in one block.
-use Rattle.std.proofs.Common.{◌≡◌, ℕ, List, [], ◌∷◌, Result, Ok, Err, IfOk, IfErr, length, flat_map, append-nil, arith, refl, ap, sym, subst, ◌∙◌}
+use Rattle.std.proofs.Common.{◌≡◌, ◌⊎◌, inl, inr, ℕ, false, Option, List, [], ◌∷◌, Result, Ok, Err, IfOk, length, flat_map, append-nil, arith, refl, ap}
+use Rattle.std.proofs.Common.{sym, subst, ◌∙◌}
 use Rattle.std.specs.Io.KnownBytes.{Appends, Keeps}
-use Rattle.std.proofs.KnownBytes.{Appends-kept}
-use Rattle.plinq_lines.specs.Written.{Writes}
+use Rattle.std.proofs.KnownBytes.{Appends-kept, Keeps-trans}
+use Rattle.std.proofs.Math.Bool.{true≢false}
+use Rattle.plinq_lines.specs.Written.{AppendsBeginning, Writes}
 use Rattle.plinq_lines.proofs.WrittenBytes.{Bytes, begins-all}
 use Rattle.plinq_text.specs.declared.line_step.LineStep.{LineStep}
 use Rattle.plinq_text.specs.Lines.{AreFull, Line, lines_of, written}
-use Rattle.plinq_text.specs.Steps.{answer, left}
+use Rattle.plinq_text.specs.Steps.{answer, bad_line, left}
 use Rattle.plinq_text.proofs.LineLaws.{lines-written}
-use Rattle.plinq_text.proofs.StepLaws.{left-alone}
+use Rattle.plinq_text.proofs.StepLaws.{left-none}
 use Rattle.plinq_rounds.specs.declared.lines_fault.LinesFault.{LinesFault}
-use Rattle.plinq_rounds.specs.declared.lines_fault.LinesFault.TheVariants.{Write}
-use Rattle.plinq_rounds.specs.Streams.{BreaksOff, Passes}
+use Rattle.plinq_rounds.specs.declared.lines_fault.LinesFault.TheVariants.{Memory, Read, Check, Write, Thread, Incomplete}
+use Rattle.plinq_rounds.specs.inner.Rounds.{IsEndOf, IsFlushFailed, RoundEnds}
+use Rattle.plinq_rounds.specs.Streams.{BreaksOff, Passes, fails}
 
--- lines are passed, and then the writer is flushed
-pub passes-flushed : {A B : Type 0} (ss ss' : List LineStep) (ls : List Line) (old mid new : Bytes) (x : A) (r : Result B LinesFault)
-    → Passes {A = A} ss ls old mid (Ok x) ss' → Keeps mid new → IfErr r (λ fault. fault ≡ Write) → Passes ss ls old new r ss'
-passes-flushed ss ss' ls old mid new x (Ok y) p keeps failed = (Appends-kept old mid new _ p.0 keeps, p.1)
-passes-flushed ss ss' ls old mid new x (Err fault) p keeps failed =
-    subst (λ f. BreaksOff f old new (written (answer ss ls))) (sym failed) (begins-all old new _ (Appends-kept old mid new _ p.0 keeps))
+-- after a beginning of a text nothing more is written
+begins-kept : (a b c : Bytes) (x : List ℕ) → AppendsBeginning a b x → Keeps b c → AppendsBeginning a c x
+begins-kept a b c x h keeps = (h.0, Appends-kept a b c _ h.1 keeps)
+
+-- a round's lines are passed, and then the writer is flushed
+pub passes-flushed : {A : Type 0} (ss ss' : List LineStep) (ls : List Line) (old mid new : Bytes) (round result : Result A LinesFault)
+    → Passes ss ls old mid round ss' → Keeps mid new → (result ≡ round) ⊎ IsFlushFailed round result → Passes ss ls old new result ss'
+passes-flushed {A} ss ss' ls old mid new round result p keeps (inl same) = subst (λ r. Passes ss ls old new r ss') (sym same) (by round p)
+  where
+    by : (r : Result A LinesFault) → Passes ss ls old mid r ss' → Passes ss ls old new r ss'
+    by (Ok x) p = (Appends-kept old mid new _ p.0 keeps, p.1, p.2)
+    by (Err (Check n)) p = (Appends-kept old mid new _ p.0 keeps, p.1)
+    by (Err Memory) p = Keeps-trans old mid new p keeps
+    by (Err Read) p = Keeps-trans old mid new p keeps
+    by (Err Write) p = begins-kept old mid new _ p keeps
+    by (Err Thread) p = Keeps-trans old mid new p keeps
+    by (Err Incomplete) p = Keeps-trans old mid new p keeps
+passes-flushed {A} ss ss' ls old mid new round result p keeps (inr failed) = by round p failed
+  where
+    written_all : Appends old mid (written (answer ss ls)) → result ≡ Err Write → Passes ss ls old new result ss'
+    written_all p is = subst (λ r. Passes {A = A} ss ls old new r ss') (sym is) (begins-all old new _ (Appends-kept old mid new _ p keeps))
+
+    by : (r : Result A LinesFault) → Passes ss ls old mid r ss' → IsFlushFailed r result → Passes ss ls old new result ss'
+    by (Ok x) p is = written_all p.0 is
+    by (Err (Check n)) p is = written_all p.0 is
+    by (Err Memory) p is = absurd is
+    by (Err Read) p is = absurd is
+    by (Err Write) p is = absurd is
+    by (Err Thread) p is = absurd is
+    by (Err Incomplete) p is = absurd is
+
+-- a round's lines are written, and then it ends
+pub passes-end : {A : Type 0} (ss ss' : List LineStep) (ls : List Line) (old new : Bytes) (bad : Option ℕ) (result : Result A LinesFault)
+    → Appends old new (written (answer ss ls)) → ss' ≡ left ss ls → bad ≡ bad_line ss ls → IsEndOf bad result → Passes ss ls old new result ss'
+passes-end ss ss' ls old new bad (Ok x) all rest is end = (all, rest, sym is ∙ end)
+passes-end ss ss' ls old new bad (Err fault) all rest is end =
+    subst (λ f. BreaksOff ss ls f old new) (sym end.2) (all, sym is ∙ end.1)
+
+-- a failure before anything is written
+pub broke-before : (ss : List LineStep) (ls : List Line) (old new : Bytes) (fault : LinesFault) → fails fault ≡ false → Keeps old new
+    → BreaksOff ss ls fault old new
+broke-before ss ls old new Memory other kept = kept
+broke-before ss ls old new Read other kept = kept
+broke-before ss ls old new (Check n) other kept = absurd (true≢false other)
+broke-before ss ls old new Write other kept = absurd (true≢false other)
+broke-before ss ls old new Thread other kept = kept
+broke-before ss ls old new Incomplete other kept = kept
+
+-- how a round ends by such a failure, or by its first line that fails a check
+pub ends-before : (bad : Option ℕ) (fault : LinesFault) → fails fault ≡ false → RoundEnds {A = Unit {0}} bad (Err fault)
+ends-before bad Memory other = tt
+ends-before bad Read other = tt
+ends-before bad (Check n) other = absurd (true≢false other)
+ends-before bad Write other = absurd (true≢false other)
+ends-before bad Thread other = tt
+ends-before bad Incomplete other = tt
+
+pub ends-by : {A : Type 0} (bad found : Option ℕ) (result : Result A LinesFault) → found ≡ bad → IsEndOf found result → RoundEnds bad result
+ends-by bad found (Ok x) is end = sym is ∙ end
+ends-by {A} bad found (Err fault) is end = subst (λ f. RoundEnds {A = A} bad (Err f)) (sym end.2) (sym is ∙ end.1)
 
 -- a text is written, and then the writer is flushed
 pub writes-flushed : {A : Type 0} (old mid new : Bytes) (bytes : List ℕ) (r : Result A LinesFault) → Appends old mid bytes → Keeps mid new
@@ -32,7 +89,7 @@ as-they-are ls = refl
 
 -- no steps leave lines as they are
 pub no-steps : (ss : List LineStep) → length ss ≡ 0 → (ls : List Line) → (answer ss ls ≡ ls) × (ss ≡ left ss ls)
-no-steps [] none ls = (as-they-are ls, sym (left-alone [] refl ls))
+no-steps [] none ls = (as-they-are ls, sym (left-none ls))
 no-steps (s ∷ ss) none ls = absurd (omega arith)
 
 -- what holds of a value holds if it follows

@@ -1,33 +1,36 @@
 -- A stream of which some lines were counted.
-use Rattle.std.proofs.Common.{◌≡◌, ℕ, ◌==◌, Bool, true, false, List, [], ◌∷◌, ◌++◌, if◌then◌else◌, refl, ap, sym, subst, ◌∙◌, append_assoc}
+use Rattle.std.proofs.Common.{◌≡◌, ℕ, ◌+◌, ◌%◌, ◌==◌, Bool, true, false, List, [], ◌∷◌, ◌++◌, length, if◌then◌else◌, Option, Some, None, option_map}
+use Rattle.std.proofs.Common.{Result, Ok, Err, IfOk}
+use Rattle.std.proofs.Common.{inl, inr, refl, ap, sym, subst, ◌∙◌, append_assoc, append-nil}
 use Rattle.std.specs.Io.KnownBytes.{Consumes, IsAtEnd}
-use Rattle.std.proofs.KnownBytes.{Consumes-nil, Consumes-trans}
+use Rattle.std.specs.List.{fold}
+use Rattle.std.proofs.Math.Bool.{true≢false}
+use Rattle.std.proofs.lemmas.List.Sums.{fold-append}
 use Rattle.plinq_lines.proofs.WrittenBytes.{Bytes}
-use Rattle.plinq_tally.specs.Tallies.{tallied}
-use Rattle.plinq_tally.proofs.TallyLaws.{tallied-append, tallied-nil}
 use Rattle.plinq_text.specs.declared.line_step.LineStep.{LineStep}
-use Rattle.plinq_text.specs.Lines.{lines_of, is_whole, line_feed}
-use Rattle.plinq_text.specs.Steps.{answer, is_over, left}
-use Rattle.plinq_text.proofs.LineLaws.{lines-append, lines-nil, whole-append, whole-nil}
-use Rattle.plinq_text.proofs.StepLaws.{answer-append, answer-nil, answer-over, left-append, left-nil}
-use Rattle.plinq_rounds.specs.Tallying.{TalliesLines, ended}
-use Rattle.plinq_rounds.proofs.Streaming.{all-read, its-bytes, over-left}
+use Rattle.plinq_text.specs.Lines.{Line, lines_of, is_whole, line_feed}
+use Rattle.plinq_text.specs.Steady.{has_check}
+use Rattle.plinq_text.specs.Steps.{answer, bad_line, is_over, left}
+use Rattle.plinq_text.proofs.LineLaws.{lines-append, lines-nil, whole-append}
+use Rattle.plinq_text.proofs.StepLaws.{answer-append, answer-nil, answer-over}
+use Rattle.plinq_rounds.specs.declared.lines_fault.LinesFault.{LinesFault}
+use Rattle.plinq_rounds.specs.declared.lines_fault.LinesFault.TheVariants.{Memory, Read, Check, Write, Thread, Incomplete}
+use Rattle.plinq_rounds.specs.inner.Rounds.{RoundEnds, behind, ends_behind}
+use Rattle.plinq_rounds.specs.Streams.{AreItsBytes, IsBadAt, MakeTheSame, NoneIsBad, fails}
+use Rattle.plinq_rounds.specs.Tallying.{FindsBad, TakesLines, ended}
+use Rattle.plinq_rounds.proofs.Coming.{Came, all-read, bad-came, bad-more, came-on, its-bytes, left-more, more-came, none-came, over-good, over-same}
 
--- whole lines of a reader's bytes were counted, these bytes were read after them, and this is left of the steps
-pub record Tallied (ss : List LineStep) (told left_told : Bytes) (old now : List (List ℕ × ℕ)) (rest : List ℕ) (steps : List LineStep) : Type 0 where
-  pub done : List ℕ
-  pub whole : is_whole done ≡ true
-  pub read : Consumes told left_told (done ++ rest)
-  pub counts : now ≡ tallied old (answer ss (lines_of done))
-  pub steps_are : steps ≡ left ss (lines_of done)
+-- whole lines of a reader's bytes were counted
+pub record Tallied {V : Type 0} (after : V → Line → V) (ss : List LineStep) (told left_told : Bytes) (old now : V) (rest : List ℕ)
+    (steps : List LineStep) (lines : ℕ) : Type 0 where
+  pub came : Came ss told left_told rest steps lines
+  pub counts : now ≡ fold after old (answer ss (lines_of came.done))
 
-pub none-tallied : (ss : List LineStep) (told : Bytes) (old : List (List ℕ × ℕ)) → Tallied ss told told old old [] ss
-none-tallied ss told old = record {
-  done = [];
-  whole = whole-nil;
-  read = Consumes-nil told;
-  counts = sym (ap (λ ls. tallied old (answer ss ls)) lines-nil ∙ ap (tallied old) (answer-nil ss) ∙ tallied-nil old);
-  steps_are = sym (ap (left ss) lines-nil ∙ left-nil ss);
+pub none-tallied : {V : Type 0} (after : V → Line → V) (ss : List LineStep) (told : Bytes) (old : V) → Tallied after ss told told old old [] ss 0
+unfolding none-came
+none-tallied after ss told old = record {
+  came = none-came ss told;
+  counts = sym (ap (λ ls. fold after old (answer ss ls)) lines-nil ∙ ap (fold after old) (answer-nil ss));
 }
 
 -- what comes after whole lines is whole if all is
@@ -46,6 +49,9 @@ ended-append a b whole =
     by true = refl
     by false = append_assoc a b (line_feed ∷ [])
 
+ended-same : (a : List ℕ) → is_whole a ≡ true → ended a ≡ a
+ended-same a whole = ap (λ w. if w then a else a ++ line_feed ∷ []) whole
+
 -- lines are whole if the last byte is a line feed
 pub whole-last : (a : List ℕ) (b : ℕ) → is_whole (a ++ b ∷ []) ≡ (b == line_feed)
 unfolding is_whole
@@ -60,75 +66,125 @@ ended-whole a = by (is_whole a) refl
     by true is = is
     by false is = whole-last a line_feed
 
-module _ {ss : List LineStep} {told left_told : Bytes} {old now : List (List ℕ × ℕ)} {rest : List ℕ} {steps : List LineStep} where
+-- a failure that no line causes
+pub none-found : (ss : List LineStep) (told : Bytes) (fault : LinesFault) → fails fault ≡ false → FindsBad ss told fault
+none-found ss told Memory other = tt
+none-found ss told Read other = tt
+none-found ss told (Check n) other = absurd (true≢false other)
+none-found ss told Write other = tt
+none-found ss told Thread other = tt
+none-found ss told Incomplete other = tt
+
+-- how a round's failure looks from the reader's first line
+found-behind : (ss : List LineStep) (told : Bytes) (lines : ℕ) (bad : Option ℕ) (fault : LinesFault) → RoundEnds {A = Unit {0}} bad (Err fault)
+    → ((n : ℕ) → bad ≡ Some n → FindsBad ss told (behind lines (Check n))) → FindsBad ss told (behind lines fault)
+found-behind ss told lines bad Memory ends found = tt
+found-behind ss told lines bad Read ends found = tt
+found-behind ss told lines bad (Check n) ends found = found n ends
+found-behind ss told lines bad Write ends found = tt
+found-behind ss told lines bad Thread ends found = tt
+found-behind ss told lines bad Incomplete ends found = tt
+
+module _ {V : Type 0} {after : V → Line → V} {ss : List LineStep} {told left_told : Bytes} {old now : V} {rest : List ℕ}
+    {steps : List LineStep} {lines : ℕ} where
   -- more was read
-  pub more-read : (s : Tallied ss told left_told old now rest steps) (new : Bytes) (piece more : List ℕ) → Consumes left_told new piece
-      → more ≡ rest ++ piece → Tallied ss told new old now more steps
-  more-read s new piece more took is = record {
-    done = s.done;
-    whole = s.whole;
-    read = subst (Consumes told new) (append_assoc s.done rest piece ∙ ap (λ x. s.done ++ x) (sym is))
-        (Consumes-trans told left_told new _ piece s.read took);
-    counts = s.counts;
-    steps_are = s.steps_are;
-  }
+  pub more-read : (s : Tallied after ss told left_told old now rest steps lines) (new : Bytes) (piece more : List ℕ) → Consumes left_told new piece
+      → more ≡ rest ++ piece → Tallied after ss told new old now more steps lines
+  unfolding more-came
+  more-read s new piece more took is = record { came = more-came s.came new piece more took is; counts = s.counts }
 
   -- what is counted of a text and of what comes after it
-  counts-more : (s : Tallied ss told left_told old now rest steps) (text : List ℕ)
-      → tallied now (answer steps (lines_of text)) ≡ tallied old (answer ss (lines_of (s.done ++ text)))
+  counts-more : (s : Tallied after ss told left_told old now rest steps lines) (text : List ℕ)
+      → fold after now (answer steps (lines_of text)) ≡ fold after old (answer ss (lines_of (s.came.done ++ text)))
   counts-more s text =
-      ap (λ c. tallied now (answer c (lines_of text))) s.steps_are
-      ∙ ap (λ n. tallied n (answer (left ss (lines_of s.done)) (lines_of text))) s.counts
-      ∙ sym (tallied-append old (answer ss (lines_of s.done)) (answer (left ss (lines_of s.done)) (lines_of text)))
-      ∙ ap (tallied old) (sym (answer-append ss (lines_of s.done) (lines_of text)))
-      ∙ ap (λ ls. tallied old (answer ss ls)) (sym (lines-append s.done text s.whole))
-
-  left-more : (s : Tallied ss told left_told old now rest steps) (text : List ℕ) → left steps (lines_of text) ≡ left ss (lines_of (s.done ++ text))
-  left-more s text =
-      ap (λ c. left c (lines_of text)) s.steps_are
-      ∙ sym (left-append ss (lines_of s.done) (lines_of text))
-      ∙ ap (left ss) (sym (lines-append s.done text s.whole))
+      let done = s.came.done in
+      ap (λ c. fold after now (answer c (lines_of text))) s.came.steps_are
+      ∙ ap (λ n. fold after n (answer (left ss (lines_of done)) (lines_of text))) s.counts
+      ∙ sym (fold-append after old (answer ss (lines_of done)) (answer (left ss (lines_of done)) (lines_of text)))
+      ∙ ap (fold after old) (sym (answer-append ss (lines_of done) (lines_of text)))
+      ∙ ap (λ ls. fold after old (answer ss ls)) (sym (lines-append done text s.came.whole))
 
   -- whole lines more were counted
-  pub tallied-on : (s : Tallied ss told left_told old now rest steps) (first later : List ℕ) (new : List (List ℕ × ℕ)) (steps' : List LineStep)
-      → rest ≡ first ++ later → is_whole first ≡ true → new ≡ tallied now (answer steps (lines_of first)) → steps' ≡ left steps (lines_of first)
-      → Tallied ss told left_told old new later steps'
-  tallied-on s first later new steps' parts whole counts left_are = record {
-    done = s.done ++ first;
-    whole = whole-append s.done first s.whole whole;
-    read = subst (Consumes told left_told) (ap (λ r. s.done ++ r) parts ∙ sym (append_assoc s.done first later)) s.read;
+  pub tallied-on : (s : Tallied after ss told left_told old now rest steps lines) (first later : List ℕ) (new : V) (steps' : List LineStep)
+      (lines' : ℕ) → rest ≡ first ++ later → is_whole first ≡ true → new ≡ fold after now (answer steps (lines_of first))
+      → steps' ≡ left steps (lines_of first) → bad_line steps (lines_of first) ≡ None
+      → (has_check steps' ≡ true → lines' ≡ (lines + length (lines_of first)) % 18446744073709551616)
+      → Tallied after ss told left_told old new later steps' lines'
+  unfolding came-on
+  tallied-on s first later new steps' lines' parts whole counts left_are good count = record {
+    came = came-on s.came first later steps' lines' parts whole left_are good count;
     counts = counts ∙ counts-more s first;
-    steps_are = left_are ∙ left-more s first;
   }
 
   -- no line more can come
-  pub tallied-over : (s : Tallied ss told left_told old now rest steps) → is_over steps ≡ true → TalliesLines ss told old now steps
-  tallied-over s over =
-      let all = its-bytes told left_told (s.done ++ rest) s.read in
+  pub tallied-over : {A : Type 0} (s : Tallied after ss told left_told old now rest steps lines) → is_over steps ≡ true → (x : A)
+      → TakesLines {A = A} after ss told old now (Ok x) steps
+  tallied-over s over x =
+      let done = s.came.done in
+      let all = its-bytes told left_told (done ++ rest) s.came.read in
       let later = rest ++ all.0 in
-      let parts : ended ((s.done ++ rest) ++ all.0) ≡ s.done ++ ended later =
-      ap ended (append_assoc s.done rest all.0) ∙ ended-append s.done later s.whole in
-      let counts : now ≡ tallied old (answer ss (lines_of (ended ((s.done ++ rest) ++ all.0)))) =
-      sym (tallied-nil now)
-      ∙ ap (tallied now) (sym (answer-over steps over (lines_of (ended later))))
+      let parts : ended ((done ++ rest) ++ all.0) ≡ done ++ ended later =
+      ap ended (append_assoc done rest all.0) ∙ ended-append done later s.came.whole in
+      let counts : now ≡ fold after old (answer ss (lines_of (ended ((done ++ rest) ++ all.0)))) =
+      ap (fold after now) (sym (answer-over steps over (lines_of (ended later))))
       ∙ counts-more s (ended later)
-      ∙ ap (λ b. tallied old (answer ss (lines_of b))) (sym parts) in (
-        (s.done ++ rest) ++ all.0,
+      ∙ ap (λ b. fold after old (answer ss (lines_of b))) (sym parts) in (
+        (done ++ rest) ++ all.0,
         all.1,
         counts,
-        λ ls. answer-over steps over ls
-            ∙ sym (over-left steps over (lines_of (ended later)) ls)
-            ∙ ap (λ c. answer c ls) (left-more s (ended later))
-            ∙ ap (λ b. answer (left ss (lines_of b)) ls) (sym parts),
+        subst (λ b. MakeTheSame steps (left ss (lines_of b))) (sym parts) (over-same s.came over (ended later)),
+        subst (λ b. NoneIsBad ss (lines_of b)) (sym parts) (over-good s.came over (ended later)),
+      )
+
+  -- a line of whole lines, or of the last ones, fails a check
+  tallied-bad : (s : Tallied after ss told left_told old now rest steps lines) (first later : List ℕ) (n : ℕ) → rest ≡ first ++ later
+      → is_whole first ≡ true → bad_line steps (lines_of first) ≡ Some n → FindsBad ss told (behind lines (Check n))
+  tallied-bad s first later n parts whole bad =
+      let done = s.came.done in
+      let all = its-bytes told left_told (done ++ rest) s.came.read in
+      let same : (done ++ rest) ++ all.0 ≡ (done ++ first) ++ (later ++ all.0) =
+      ap (λ r. (done ++ r) ++ all.0) parts ∙ ap (λ r. r ++ all.0) (sym (append_assoc done first later)) ∙ append_assoc (done ++ first) later all.0 in
+      let both = whole-append done first s.came.whole whole in (
+        done ++ first,
+        later ++ all.0,
+        subst (AreItsBytes told) same all.1,
+        inl both,
+        subst (λ b. IsBadAt ss (lines_of b) ((n + lines) % 18446744073709551616)) (sym (ended-same (done ++ first) both)) (bad-came s.came first n bad),
+      )
+
+  tallied-ends-bad : (s : Tallied after ss told left_told old now rest steps lines) (n : ℕ) → IsAtEnd left_told
+      → bad_line steps (lines_of (ended rest)) ≡ Some n → FindsBad ss told (behind lines (Check n))
+  tallied-ends-bad s n end bad =
+      let done = s.came.done in
+      let all = all-read told left_told (done ++ rest) s.came.read end in (
+        done ++ rest,
+        [],
+        subst (AreItsBytes told) (sym (append-nil (done ++ rest))) all,
+        inr refl,
+        subst (λ b. IsBadAt ss (lines_of b) ((n + lines) % 18446744073709551616)) (sym (ended-append done rest s.came.whole))
+            (bad-came s.came (ended rest) n bad),
       )
 
   -- all was read, and the last line is counted
-  pub tallied-ends : (s : Tallied ss told left_told old now rest steps) (new : List (List ℕ × ℕ)) (steps' : List LineStep) → IsAtEnd left_told
-      → new ≡ tallied now (answer steps (lines_of (ended rest))) → steps' ≡ left steps (lines_of (ended rest)) → TalliesLines ss told old new steps'
-  tallied-ends s new steps' end counts left_are =
-      let parts : ended (s.done ++ rest) ≡ s.done ++ ended rest = ended-append s.done rest s.whole in (
-        s.done ++ rest,
-        all-read told left_told (s.done ++ rest) s.read end,
-        counts ∙ counts-more s (ended rest) ∙ ap (λ b. tallied old (answer ss (lines_of b))) (sym parts),
-        λ ls. ap (λ c. answer c ls) (left_are ∙ left-more s (ended rest) ∙ ap (λ b. left ss (lines_of b)) (sym parts)),
+  pub tallied-ends : (s : Tallied after ss told left_told old now rest steps lines) (new : V) (steps' : List LineStep)
+      (r : Result (Unit {0}) LinesFault) → IsAtEnd left_told → IfOk r (λ _. new ≡ fold after now (answer steps (lines_of (ended rest))))
+      → IfOk r (λ _. steps' ≡ left steps (lines_of (ended rest))) → RoundEnds (bad_line steps (lines_of (ended rest))) r
+      → TakesLines after ss told old new (ends_behind lines r) steps'
+  tallied-ends s new steps' (Ok x) end counts left_are good =
+      let done = s.came.done in
+      let parts : ended (done ++ rest) ≡ done ++ ended rest = ended-append done rest s.came.whole in (
+        done ++ rest,
+        all-read told left_told (done ++ rest) s.came.read end,
+        counts ∙ counts-more s (ended rest) ∙ ap (λ b. fold after old (answer ss (lines_of b))) (sym parts),
+        λ ls. ap (λ c. answer c ls) (left_are ∙ left-more s.came (ended rest) ∙ ap (λ b. left ss (lines_of b)) (sym parts)),
+        λ start. ap (λ b. bad_line ss (lines_of b)) parts
+            ∙ bad-more s.came (ended rest) ∙ ap (option_map (λ n. n + length (lines_of done))) good,
       )
+  tallied-ends s new steps' (Err fault) end counts left_are ends =
+      found-behind ss told lines (bad_line steps (lines_of (ended rest))) fault ends (λ n bad. tallied-ends-bad s n end bad)
+
+  -- a round failed
+  pub tallied-broke : (s : Tallied after ss told left_told old now rest steps lines) (first later : List ℕ) (fault : LinesFault) → rest ≡ first ++ later
+      → is_whole first ≡ true → RoundEnds {A = Unit {0}} (bad_line steps (lines_of first)) (Err fault) → FindsBad ss told (behind lines fault)
+  tallied-broke s first later fault parts whole ends =
+      found-behind ss told lines (bad_line steps (lines_of first)) fault ends (λ n bad. tallied-bad s first later n parts whole bad)

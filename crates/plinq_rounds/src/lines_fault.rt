@@ -1,4 +1,5 @@
-ghost use Rattle.std.specs.Prelude.{◌≡◌, ◌≢◌};
+ghost use Rattle.std.specs.Prelude.{◌≡◌, false};
+ghost use Rattle.plinq_rounds.specs.Streams.{fails};
 ghost use Rattle.plinq_rounds.specs.declared.lines_fault.LinesFault.TheVariants.{Memory, Write};
 
 use plinq_lines::WriteFault;
@@ -15,6 +16,9 @@ pub enum LinesFault {
     /// The input couldn't be read.
     #[error("read failed")]
     Read,
+    /// A line failed a check. So many lines stand before it, modulo 2^64.
+    #[error("a line failed a check after {0} lines")]
+    Check(u64),
     /// The output couldn't be written.
     #[error("write failed")]
     Write,
@@ -43,7 +47,7 @@ impl From<WriteFault> for LinesFault {
 }
 
 impl From<RunFault> for LinesFault {
-    ghost from_gives = { λ _ fault. fault ≢ Write };
+    ghost from_gives = { λ _ fault. fails fault ≡ false };
 
     fn from(fault: RunFault) -> LinesFault {
         match fault {

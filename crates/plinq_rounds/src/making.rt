@@ -1,8 +1,8 @@
-ghost use Rattle.std.specs.Prelude.{◌≡◌, true, [], Ok, Some, IfOk, flat_map};
-ghost use Rattle.plinq_text.specs.Lines.{is_whole, lines_of};
+ghost use Rattle.std.specs.Prelude.{◌≡◌, true, [], Ok, IfOk, IfSome};
+ghost use Rattle.plinq_text.specs.Lines.{is_whole};
+ghost use Rattle.plinq_text.specs.Steady.{are_steady};
 ghost use Rattle.plinq_text.specs.StepPatterns.{ArePatternsOf};
-ghost use Rattle.plinq_text.specs.Steps.{answer, answer_text, are_alone, made_text};
-ghost use Rattle.plinq_rounds.specs.inner.Blocks.{part_of};
+ghost use Rattle.plinq_rounds.specs.inner.Blocks.{AreSteadyBlocks, part_of, steady_bytes};
 
 use crate::block::{Block, Span, part};
 use crate::cutting::cut_blocks;
@@ -22,11 +22,13 @@ use std::time::Clock;
 /// How many bytes a block has at least, but for the last, unless patterns are compiled for it.
 const BLOCK_BYTES: usize = 262_144;
 
-/// Makes the output of a block of lines. A worker compiles the patterns for itself, since no other thread may use them.
+/// Makes the output of a block of lines, unless a step changes by one of them. A worker compiles the patterns for itself, since no
+/// other thread may use them.
 #[derive(Drop)]
 struct MakeBlock<'a> {
     steps: &'a [LineStep],
     text: &'a [u8],
+    ghost steady: { are_steady steps.now ≡ true },
 }
 
 impl<'a> MakeOf for MakeBlock<'a> {
@@ -34,19 +36,20 @@ impl<'a> MakeOf for MakeBlock<'a> {
 
     type Made = Block;
 
-    ghost makes = { λ m span. Ok (Some (made_text m.steps.now (part_of m.text.now span))) };
+    ghost makes = { λ m span. Ok (steady_bytes m.steps.now (part_of m.text.now span)) };
 
     fn make_of(&self, alloc: Global, span: Span) -> Result<Option<Block>, MapFault> {
         match make_block(alloc, self.steps, part(self.text, span)) {
-            Ok(block) => Ok(Some(block)),
+            Ok(made) => Ok(made),
             Err(_) => Err(MapFault::Memory),
         }
     }
 }
 
-/// What steps that look at each line alone make of the lines of a text. Their patterns are compiled for it.
-fn make_block(alloc: Global, steps: &[LineStep], text: &[u8]) -> Result<Block, AllocError>
-    ensures { IfOk result (λ block. block ≡ made_text steps.now text.now) }
+/// What steady steps make of the lines of a text. Their patterns are compiled for it.
+fn make_block(alloc: Global, steps: &[LineStep], text: &[u8]) -> Result<Option<Block>, AllocError>
+    requires { are_steady steps.now ≡ true }
+    ensures { IfOk result (λ made. made ≡ steady_bytes steps.now text.now) }
 {
     let patterns = patterns(alloc, steps)?;
     make_with(alloc, steps, patterns.as_slice(), text)
@@ -58,16 +61,20 @@ fn make_with(
     steps: &[LineStep],
     patterns: &[Pattern],
     text: &[u8],
-) -> Result<Block, AllocError>
-    requires { ArePatternsOf steps.now patterns.now }
-    ensures { IfOk result (λ block. block ≡ made_text steps.now text.now) }
+) -> Result<Option<Block>, AllocError>
+    requires patterns { ArePatternsOf steps.now patterns.now }
+    requires steady { are_steady steps.now ≡ true }
+    ensures { IfOk result (λ made. made ≡ steady_bytes steps.now text.now) }
 {
     let mut bytes = Vec::new(alloc);
-    make_lines(alloc, steps, patterns, text, &mut bytes)?;
-    Ok(Block { bytes })
+    if make_lines(alloc, steps, patterns, text, &mut bytes)? {
+        return Ok(Some(Block { bytes }));
+    }
+    Ok(None)
 }
 
-/// What steps that look at each line alone make of the lines of a text, in blocks. A short text is one, as is any for one worker.
+/// What steady steps make of the lines of a text, in blocks, unless one of them changes. A short text is one block, as is any for one
+/// worker.
 pub(crate) fn make_blocks<R>(
     rt: &R,
     alloc: Global,
@@ -75,14 +82,13 @@ pub(crate) fn make_blocks<R>(
     steps: &[LineStep],
     patterns: &[Pattern],
     text: &[u8],
-) -> Result<Vec<Block>, RunFault>
+) -> Result<Option<Vec<Block>>, RunFault>
 where
     R: Clock + Threads + Wait + Sync,
     requires patterns { ArePatternsOf steps.now patterns.now }
     requires whole { is_whole text.now ≡ true }
-    requires alone { are_alone steps.now ≡ true }
-    ensures bytes { IfOk result (λ blocks. flat_map (λ b. b) blocks.items ≡ answer_text steps.now text.now) }
-    ensures lines { IfOk result (λ blocks. flat_map lines_of blocks.items ≡ answer steps.now (lines_of text.now)) }
+    requires steady { are_steady steps.now ≡ true }
+    ensures { IfOk result (λ made. IfSome made (λ blocks. AreSteadyBlocks steps.now text.now blocks.items)) }
 {
     if text.len() <= BLOCK_BYTES || workers.number() == 1 {
         return make_here(alloc, steps, patterns, text);
@@ -90,13 +96,17 @@ where
     let Ok(spans) = cut_blocks(alloc, text, block_bytes(workers, patterns, text)) else {
         return Err(RunFault::Memory);
     };
+    let count = spans.len();
     let Ok(source) = list_source(alloc, spans) else {
         return Err(RunFault::Memory);
     };
     let query = ordered_by(alloc, workers)?;
     let make = MakeBlock { steps, text };
     let (blocks, _) = to_vec_mapped(rt, alloc, &query, source, &MapEach { make })?;
-    Ok(blocks)
+    if blocks.len() < count {
+        return Ok(None);
+    }
+    Ok(Some(blocks))
 }
 
 /// How many bytes a block has at least. If patterns are compiled for each block, there are no more blocks than workers.
@@ -113,19 +123,21 @@ fn make_here(
     steps: &[LineStep],
     patterns: &[Pattern],
     text: &[u8],
-) -> Result<Vec<Block>, RunFault>
+) -> Result<Option<Vec<Block>>, RunFault>
     requires patterns { ArePatternsOf steps.now patterns.now }
     requires whole { is_whole text.now ≡ true }
-    requires alone { are_alone steps.now ≡ true }
-    ensures bytes { IfOk result (λ blocks. flat_map (λ b. b) blocks.items ≡ answer_text steps.now text.now) }
-    ensures lines { IfOk result (λ blocks. flat_map lines_of blocks.items ≡ answer steps.now (lines_of text.now)) }
+    requires steady { are_steady steps.now ≡ true }
+    ensures { IfOk result (λ made. IfSome made (λ blocks. AreSteadyBlocks steps.now text.now blocks.items)) }
 {
     let mut blocks = Vec::new(alloc);
-    let Ok(block) = make_with(alloc, steps, patterns, text) else {
+    let Ok(made) = make_with(alloc, steps, patterns, text) else {
         return Err(RunFault::Memory);
     };
+    let Some(block) = made else {
+        return Ok(None);
+    };
     match blocks.push(block) {
-        Ok(()) => Ok(blocks),
+        Ok(()) => Ok(Some(blocks)),
         Err(_) => Err(RunFault::Memory),
     }
 }

@@ -1,6 +1,6 @@
-ghost use Rattle.std.specs.Prelude.{◌≡◌, ◌≢◌, ◌≤◌, ◌<◌, ◌+◌, ◌++◌, true, [], List, ℕ, IfOk, IfErr, length, take, drop, vec_len};
+ghost use Rattle.std.specs.Prelude.{◌≡◌, ◌≤◌, ◌<◌, ◌+◌, ◌++◌, true, false, [], List, ℕ, IfOk, IfErr, length, take, drop, vec_len};
 ghost use Rattle.std.specs.Io.KnownBytes.{Consumes, IsAtEnd};
-ghost use Rattle.plinq_rounds.specs.declared.lines_fault.LinesFault.TheVariants.{Write};
+ghost use Rattle.plinq_rounds.specs.Streams.{fails};
 ghost use Rattle.plinq_rounds.specs.Tallying.{ended};
 ghost use Rattle.plinq_text.specs.Lines.{is_whole};
 
@@ -69,7 +69,7 @@ impl ReadBuffer {
         ensures came { IfOk result (λ n. (piece : List ℕ) × (length piece ≡ n) × (self.new ≡ self.old ++ piece)
             × Consumes (I.remaining reader.old) (I.remaining reader.new) piece) }
         ensures ended { IfOk result (λ n. n ≡ 0 → IsAtEnd (I.remaining reader.new)) }
-        ensures failed { IfErr result (λ fault. fault ≢ Write) }
+        ensures failed { IfErr result (λ fault. fails fault ≡ false) }
     {
         make_room(&mut self.bytes, self.count, self.first_room)?;
         let count = read_after(reader, &mut self.bytes, self.count)?;
@@ -93,7 +93,8 @@ impl ReadBuffer {
 
     /// Gives a last line its line feed if it has none.
     pub(crate) fn end_line(&mut self) -> Result<(), LinesFault>
-        ensures { IfOk result (λ _. self.new ≡ ended self.old) }
+        ensures ended { IfOk result (λ _. self.new ≡ ended self.old) }
+        ensures failed { IfErr result (λ fault. fails fault ≡ false) }
     {
         if ends_whole(self.as_slice()) {
             return Ok(());
@@ -132,7 +133,7 @@ fn make_room(bytes: &mut Vec<u8>, count: usize, first_room: usize) -> Result<(),
     ensures kept { take count bytes.new.items ≡ take count bytes.old.items }
     ensures longer { vec_len bytes.old ≤ vec_len bytes.new }
     ensures room { IfOk result (λ _. count < vec_len bytes.new) }
-    ensures failed { IfErr result (λ fault. fault ≢ Write) }
+    ensures failed { IfErr result (λ fault. fails fault ≡ false) }
 {
     let len = bytes.len();
     if count < len {
@@ -157,7 +158,7 @@ fn read_after<I: Read>(
     ensures within { IfOk result (λ n. before + n ≤ vec_len bytes.new) }
     ensures came { IfOk result (λ n. Consumes (I.remaining reader.old) (I.remaining reader.new) (take n (drop before bytes.new.items))) }
     ensures ended { IfOk result (λ n. n ≡ 0 → IsAtEnd (I.remaining reader.new)) }
-    ensures failed { IfErr result (λ fault. fault ≢ Write) }
+    ensures failed { IfErr result (λ fault. fails fault ≡ false) }
 {
     let (_, room) = bytes.split_at_mut(before);
     match reader.read(room) {

@@ -1,15 +1,17 @@
-ghost use Rattle.std.specs.Prelude.{◌≡◌, true, IfOk, IfErr};
+ghost use Rattle.std.specs.Prelude.{◌≡◌, ◌⊎◌, ◌+◌, ◌%◌, true, IfOk, IfErr, length};
 ghost use Rattle.std.specs.Io.KnownBytes.{Keeps};
+ghost use Rattle.plinq_rounds.specs.inner.Rounds.{IsFlushFailed, behind, ends_behind};
 ghost use Rattle.plinq_rounds.specs.Streams.{AnswersLines, Passes};
 ghost use Rattle.plinq_rounds.specs.declared.lines_fault.LinesFault.TheVariants.{Write};
 ghost use Rattle.plinq_text.specs.Lines.{is_whole, lines_of};
+ghost use Rattle.plinq_text.specs.Steady.{has_check};
 ghost use Rattle.plinq_text.specs.StepPatterns.{ArePatternsOf};
 
 use crate::lines_fault::LinesFault;
 use crate::read_buffer::ReadBuffer;
 use crate::round::{answer_here, answer_round};
 use plinq_settings::Degree;
-use plinq_text::{LineStep, Pattern, is_over, patterns};
+use plinq_text::{LineStep, Pattern, has_check, is_over, line_count, patterns};
 use std::alloc::Global;
 use std::io::{Read, Write};
 use std::sync::Wait;
@@ -23,9 +25,10 @@ use std::time::Clock;
 ///
 /// # Errors
 ///
-/// [`LinesFault::Read`] at the first read that fails, [`LinesFault::Write`] if the writer does, and the others if memory runs out,
-/// no thread can be started or results are missing. What was written is the answer to whole lines, the first ones of all; after a
-/// failing write it is a beginning of such an answer.
+/// [`LinesFault::Check`] at the first line that fails a check, with how many lines of this reader stand before it: the answer to
+/// these is written. [`LinesFault::Read`] at the first read that fails, [`LinesFault::Write`] if the writer does, and the others if
+/// memory runs out, no thread can be started or results are missing. What was written is the answer to whole lines, the first ones
+/// of all; after a failing write it is a beginning of such an answer.
 pub fn answer_lines<R, I, W>(
     rt: &R,
     alloc: Global,
@@ -45,6 +48,7 @@ where
     let Ok(patterns) = patterns(alloc, steps) else {
         return Err(LinesFault::Memory);
     };
+    let mut lines = 0;
     for _ in 0..u64::MAX {
         if is_over(steps) {
             return Ok(());
@@ -54,7 +58,8 @@ where
             Err(fault) => return Err(fault),
         };
         if count == 0 {
-            return answer_last(alloc, steps, patterns.as_slice(), buffer.as_slice(), out);
+            let outcome = answer_last(alloc, steps, patterns.as_slice(), buffer.as_slice(), out);
+            return ends_behind(lines, outcome);
         }
         let whole = buffer.whole_lines(count);
         match answer_whole(
@@ -66,8 +71,11 @@ where
             buffer.front(whole),
             out,
         ) {
-            Ok(()) => buffer.drop_front(whole),
-            Err(fault) => return Err(fault),
+            Ok(()) => {
+                lines = counted(steps, lines, buffer.front(whole));
+                buffer.drop_front(whole);
+            }
+            Err(fault) => return Err(behind(lines, fault)),
         }
     }
     Err(LinesFault::Read)
@@ -91,8 +99,54 @@ where
     ensures passes { Passes steps.old (lines_of text.now) (W.contents out.old) (W.contents out.new) result steps.new }
     ensures kept { IfOk result (λ _. ArePatternsOf steps.new patterns.now) }
 {
-    answer_round(rt, alloc, workers, steps, patterns, text, out)?;
-    flush(out)
+    let outcome = answer_round(rt, alloc, workers, steps, patterns, text, out);
+    flushed(outcome, out)
+}
+
+/// Flushes the writer, unless something wasn't written.
+fn flushed<W: Write>(outcome: Result<(), LinesFault>, out: &mut W) -> Result<(), LinesFault>
+    ensures kept { Keeps (W.contents out.old) (W.contents out.new) }
+    ensures same { result ≡ outcome ⊎ IsFlushFailed outcome result }
+{
+    match outcome {
+        Ok(()) => flush(out),
+        Err(LinesFault::Check(count)) => {
+            flush(out)?;
+            Err(LinesFault::Check(count))
+        }
+        Err(fault) => Err(fault),
+    }
+}
+
+/// A fault of lines that stand behind so many.
+pub(crate) fn behind(lines: u64, fault: LinesFault) -> LinesFault
+    ensures { result ≡ behind lines fault }
+{
+    match fault {
+        LinesFault::Check(count) => LinesFault::Check(count.wrapping_add(lines)),
+        _ => fault,
+    }
+}
+
+/// How lines end that stand behind so many.
+pub(crate) fn ends_behind(lines: u64, outcome: Result<(), LinesFault>) -> Result<(), LinesFault>
+    ensures { result ≡ ends_behind lines outcome }
+{
+    match outcome {
+        Ok(()) => Ok(()),
+        Err(fault) => Err(behind(lines, fault)),
+    }
+}
+
+/// How many lines came, modulo 2^64, with those of a text. They are counted only if one may fail a check.
+pub(crate) fn counted(steps: &[LineStep], lines: u64, text: &[u8]) -> u64
+    ensures { has_check steps.now ≡ true → result ≡ (lines + length (lines_of text.now)) % 18446744073709551616 }
+{
+    if has_check(steps) {
+        lines.wrapping_add(line_count(text) as u64)
+    } else {
+        lines
+    }
 }
 
 pub(crate) fn flush<W: Write>(out: &mut W) -> Result<(), LinesFault>
@@ -116,6 +170,6 @@ fn answer_last<W: Write>(
     requires { ArePatternsOf steps.old patterns.now }
     ensures { Passes steps.old (lines_of text.now) (W.contents out.old) (W.contents out.new) result steps.new }
 {
-    answer_here(alloc, steps, patterns, text, out)?;
-    flush(out)
+    let outcome = answer_here(alloc, steps, patterns, text, out);
+    flushed(outcome, out)
 }

@@ -1,19 +1,22 @@
 ghost use Rattle.std.specs.Prelude.{◌≡◌, true, IfOk, flat_map};
+ghost use Rattle.std.specs.List.{fold};
 ghost use Rattle.plinq_lines.specs.Written.{Writes};
-ghost use Rattle.plinq_rounds.specs.Tallying.{TalliesLines};
-ghost use Rattle.plinq_tally.specs.Tallies.{tallied, tally_text, total_text};
+ghost use Rattle.plinq_rounds.specs.inner.Rounds.{RoundEnds};
+ghost use Rattle.plinq_rounds.specs.Tallying.{TakesLines};
+ghost use Rattle.plinq_tally.specs.FigureText.{figures_text};
+ghost use Rattle.plinq_tally.specs.Tallies.{tally_text, total_text};
 ghost use Rattle.plinq_text.specs.Lines.{is_whole, lines_of};
 ghost use Rattle.plinq_text.specs.StepPatterns.{ArePatternsOf};
-ghost use Rattle.plinq_text.specs.Steps.{answer, left};
+ghost use Rattle.plinq_text.specs.Steps.{answer, bad_line, left};
 
 use crate::block::Block;
 use crate::lines_fault::LinesFault;
 use crate::read_buffer::ReadBuffer;
-use crate::round::pass_round;
-use crate::stream::flush;
+use crate::round::{end_of, pass_round};
+use crate::stream::{behind, counted, ends_behind, flush};
 use plinq_lines::write_bytes;
 use plinq_settings::Degree;
-use plinq_tally::Tally;
+use plinq_tally::{Figures, TakeLines, Tally, Told};
 use plinq_text::{LineStep, Pattern, is_over, patterns};
 use std::alloc::{AllocError, Global};
 use std::io::{Read, Write};
@@ -21,34 +24,37 @@ use std::sync::Wait;
 use std::thread::Threads;
 use std::time::Clock;
 
-/// Counts how often each line comes that a query's steps make of the lines of a reader's bytes, and leaves what is left of the
-/// steps.
+/// Takes in each line that a query's steps make of the lines of a reader's bytes, and leaves what is left of the steps. A
+/// [`Tally`] counts how often each comes, [`Figures`] what the numbers of lines come to.
 ///
-/// Each read is counted as far as it has whole lines, by so many workers up to the first step that doesn't look at each line alone, if it is long. Once
-/// no line more can come out of the steps, nothing more is read. A last line counts as if it ended in a line feed.
+/// Each read is taken in as far as it has whole lines; if it is long, so many workers apply the first steps. Once no line more can
+/// come out of the steps, nothing more is read. A last line is taken in as if it ended in a line feed.
 ///
 /// # Errors
 ///
+/// [`LinesFault::Check`] at the first line that fails a check, with how many lines of this reader stand before it.
 /// [`LinesFault::Read`] at the first read that fails, and the others if memory runs out, no thread can be started or results are
-/// missing. Some lines were counted then.
-pub fn tally_lines<R, I>(
+/// missing. Some lines were taken in then.
+pub fn tally_lines<R, I, T>(
     rt: &R,
     alloc: Global,
     workers: Degree,
     steps: &mut [LineStep],
     buffer: &mut ReadBuffer,
     reader: &mut I,
-    tally: &mut Tally,
+    taker: &mut T,
 ) -> Result<(), LinesFault>
 where
     R: Clock + Threads + Wait + Sync,
     I: Read,
-    ensures { IfOk result (λ _. TalliesLines steps.old (I.remaining reader.old) tally.old tally.new steps.new) }
+    T: TakeLines,
+    ensures { TakesLines (T.after) steps.old (I.remaining reader.old) taker.old taker.new result steps.new }
 {
     buffer.clear();
     let Ok(patterns) = patterns(alloc, steps) else {
         return Err(LinesFault::Memory);
     };
+    let mut lines = 0;
     for _ in 0..u64::MAX {
         if is_over(steps) {
             return Ok(());
@@ -58,16 +64,21 @@ where
             Err(fault) => return Err(fault),
         };
         if count == 0 {
-            buffer.end_line()?;
-            return tally_round(
-                rt,
-                alloc,
-                workers,
-                steps,
-                patterns.as_slice(),
-                buffer.as_slice(),
-                tally,
-            );
+            match buffer.end_line() {
+                Ok(()) => {
+                    let outcome = tally_round(
+                        rt,
+                        alloc,
+                        workers,
+                        steps,
+                        patterns.as_slice(),
+                        buffer.as_slice(),
+                        taker,
+                    );
+                    return ends_behind(lines, outcome);
+                }
+                Err(fault) => return Err(fault),
+            }
         }
         let whole = buffer.whole_lines(count);
         match tally_round(
@@ -77,10 +88,13 @@ where
             steps,
             patterns.as_slice(),
             buffer.front(whole),
-            tally,
+            taker,
         ) {
-            Ok(()) => buffer.drop_front(whole),
-            Err(fault) => return Err(fault),
+            Ok(()) => {
+                lines = counted(steps, lines, buffer.front(whole));
+                buffer.drop_front(whole);
+            }
+            Err(fault) => return Err(behind(lines, fault)),
         }
     }
     Err(LinesFault::Read)
@@ -120,35 +134,55 @@ fn write_flushed<W: Write>(out: &mut W, bytes: &[u8]) -> Result<(), LinesFault>
     flush(out)
 }
 
-/// Counts what the steps make of a text of whole lines, and leaves what is left of them.
-fn tally_round<R>(
+/// Writes a line for each key of figures: what is told of its numbers and, unless it is empty, a tab and the key.
+///
+/// # Errors
+///
+/// As [`write_tally`].
+pub fn write_figures<W: Write>(
+    alloc: Global,
+    figures: &Figures,
+    told: Told,
+    out: &mut W,
+) -> Result<(), LinesFault>
+    ensures { Writes (W.contents out.old) (W.contents out.new) result (figures_text told figures.now.1) }
+{
+    let mut lines = Vec::new(alloc);
+    figures.put_lines(told, &mut lines)?;
+    write_flushed(out, lines.as_slice())
+}
+
+/// Takes in what the steps make of a text of whole lines, and leaves what is left of them.
+fn tally_round<R, T>(
     rt: &R,
     alloc: Global,
     workers: Degree,
     steps: &mut [LineStep],
     patterns: &[Pattern],
     text: &[u8],
-    tally: &mut Tally,
+    taker: &mut T,
 ) -> Result<(), LinesFault>
 where
     R: Clock + Threads + Wait + Sync,
+    T: TakeLines,
     requires patterns { ArePatternsOf steps.old patterns.now }
     requires whole { is_whole text.now ≡ true }
-    ensures counts { IfOk result (λ _. tally.new ≡ tallied tally.old (answer steps.old (lines_of text.now))) }
+    ensures takes { IfOk result (λ _. taker.new ≡ fold (T.after) taker.old (answer steps.old (lines_of text.now))) }
     ensures left { IfOk result (λ _. steps.new ≡ left steps.old (lines_of text.now)) }
+    ensures bad { RoundEnds (bad_line steps.old (lines_of text.now)) result }
     ensures kept { IfOk result (λ _. ArePatternsOf steps.new patterns.now) }
 {
-    let blocks = pass_round(rt, alloc, workers, steps, patterns, text)?;
-    tally_blocks(blocks.as_slice(), tally)?;
-    Ok(())
+    let passed = pass_round(rt, alloc, workers, steps, patterns, text)?;
+    take_blocks(passed.blocks.as_slice(), taker)?;
+    end_of(passed.bad)
 }
 
-/// Counts the lines of blocks.
-fn tally_blocks(blocks: &[Block], tally: &mut Tally) -> Result<(), AllocError>
-    ensures { IfOk result (λ _. tally.new ≡ tallied tally.old (flat_map lines_of blocks.now)) }
+/// Takes in the lines of blocks.
+fn take_blocks<T: TakeLines>(blocks: &[Block], taker: &mut T) -> Result<(), AllocError>
+    ensures { IfOk result (λ _. taker.new ≡ fold (T.after) taker.old (flat_map lines_of blocks.now)) }
 {
     for block in blocks {
-        tally.count_lines(block.as_slice())?;
+        taker.take_lines(block.as_slice())?;
     }
     Ok(())
 }

@@ -1,2 +1,3 @@
+pub mod FigureLaws
 pub mod TallyLaws
 pub mod TimesLaws

@@ -7,7 +7,6 @@ use Rattle.std.specs.List.{fold}
 use Rattle.std.specs.Str.{bytes_eq}
 use Rattle.plinq_text.specs.Lines.{Line}
 use Rattle.plinq_tally.specs.Tallies.{counted, one_more, tallied, times, total}
-use Rattle.plinq_tally.proofs.TallyLaws.{tallied-cons, tallied-nil}
 
 abbrev most : ℕ
 most = 18446744073709551616
@@ -41,9 +40,9 @@ module _ (t : List ℕ) where
 
   times-more : (gs : List (List ℕ × ℕ)) (ls : List Line) → times t gs < most → times t (tallied gs ls) ≡ (times t gs + among ls) % most
   times-more gs [] small =
-      ap (times t) (tallied-nil gs) ∙ sym (mod-eq_of_lt small) ∙ (let none : times t gs ≡ times t gs + 0 = omega arith in ap (λ n. n % most) none)
+      sym (mod-eq_of_lt small) ∙ (let none : times t gs ≡ times t gs + 0 = omega arith in ap (λ n. n % most) none)
   times-more gs (l ∷ ls) small =
-      ap (times t) (tallied-cons gs l ls) ∙ by (bytes_eq t l.text) (times-counted gs l.text) (times-more (counted gs l.text) ls)
+      by (bytes_eq t l.text) (times-counted gs l.text) (times-more (counted gs l.text) ls)
     where
       by : (b : Bool) → times t (counted gs l.text) ≡ (if b then one_more (times t gs) else times t gs)
           → (times t (counted gs l.text) < most → times t (tallied (counted gs l.text) ls) ≡ (times t (counted gs l.text) + among ls) % most)
@@ -89,10 +88,9 @@ sum-counted (g ∷ gs) t = by (bytes_eq t g.0) (sum-counted gs t)
         ∙ (let same : g.1 + (sum gs + 1) ≡ (g.1 + sum gs) + 1 = omega arith in ap (λ n. n % most) same)
 
 sum-more : (gs : List (List ℕ × ℕ)) (ls : List Line) → sum (tallied gs ls) % most ≡ (sum gs + length ls) % most
-sum-more gs [] = ap (λ hs. sum hs % most) (tallied-nil gs) ∙ (let none : sum gs ≡ sum gs + 0 = omega arith in ap (λ n. n % most) none)
+sum-more gs [] = let none : sum gs ≡ sum gs + 0 = omega arith in ap (λ n. n % most) none
 sum-more gs (l ∷ ls) =
-    ap (λ hs. sum hs % most) (tallied-cons gs l ls)
-    ∙ sum-more (counted gs l.text) ls
+    sum-more (counted gs l.text) ls
     ∙ sym (mod-add-mod (sum (counted gs l.text)) most (length ls))
     ∙ ap (λ n. (n + length ls) % most) (sum-counted gs l.text)
     ∙ mod-add-mod (sum gs + 1) most (length ls)

@@ -1,2 +1,5 @@
+pub mod FigureRows
+pub mod Figures
+pub mod FigureText
 pub mod Tallies
 pub mod TallyRows

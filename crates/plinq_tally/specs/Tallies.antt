@@ -8,15 +8,18 @@ use Rattle.plinq_text.specs.Lines.{Line}
 abbrev pub one_more : ℕ → ℕ
 one_more n = (n + 1) % 18446744073709551616
 
--- this text comes once more: its count grows where it stands, and a new text stands last
+-- what a key has grows where it stands, and a new key stands last with this first value
+abbrev pub keyed : {V : Type 0} → V → (V → V) → List (List ℕ × V) → List ℕ → List (List ℕ × V)
+keyed first more [] key = (key, first) ∷ []
+keyed first more (g ∷ gs) key = if bytes_eq key g.0 then (g.0, more g.1) ∷ gs else g ∷ keyed first more gs key
+
+-- this text comes once more
 abbrev pub counted : List (List ℕ × ℕ) → List ℕ → List (List ℕ × ℕ)
-counted [] text = (text, 1) ∷ []
-counted (g ∷ gs) text = if bytes_eq text g.0 then (g.0, one_more g.1) ∷ gs else g ∷ counted gs text
+counted gs text = keyed 1 one_more gs text
 
 -- the texts of these lines come
-unfoldable pub tallied : List (List ℕ × ℕ) → List Line → List (List ℕ × ℕ)
-tallied gs [] = gs
-tallied gs (l ∷ ls) = tallied (counted gs l.text) ls
+abbrev pub tallied : List (List ℕ × ℕ) → List Line → List (List ℕ × ℕ)
+tallied gs ls = fold (λ gs l. counted gs l.text) gs ls
 
 -- how often this text came
 abbrev pub times : List ℕ → List (List ℕ × ℕ) → ℕ

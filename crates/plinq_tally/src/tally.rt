@@ -2,6 +2,7 @@ ghost use Rattle.std.specs.Prelude.{◌≡◌, ◌++◌, [], IfOk, length, optio
 ghost use Rattle.plinq_tally.specs.Tallies.{count_line, counted, tallied, tally_text, total, total_text};
 ghost use Rattle.plinq_text.specs.Lines.{lines_of};
 
+use crate::take_lines::TakeLines;
 use indexmap::IndexMap;
 use itoa::Buffer;
 use plinq_text::first_line;
@@ -34,12 +35,7 @@ impl Tally {
         }
     }
 
-    /// Counts the lines of a text.
-    ///
-    /// # Errors
-    ///
-    /// [`AllocError`] if memory runs out.
-    pub fn count_lines(&mut self, text: &[u8]) -> Result<(), AllocError>
+    fn count_lines(&mut self, text: &[u8]) -> Result<(), AllocError>
         ensures { IfOk result (λ _. self.new ≡ tallied self.old (lines_of text.now)) }
     {
         let mut rest = text;
@@ -125,6 +121,14 @@ impl Tally {
                 Ok(())
             }
         }
+    }
+}
+
+impl TakeLines for Tally {
+    ghost after = { λ gs l. counted gs l.text };
+
+    fn take_lines(&mut self, text: &[u8]) -> Result<(), AllocError> {
+        self.count_lines(text)
     }
 }
 

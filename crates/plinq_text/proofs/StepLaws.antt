@@ -6,17 +6,14 @@ use Rattle.std.proofs.lemmas.List.Sums.{take_while-cons}
 use Rattle.plinq_text.specs.declared.line_test.LineTest.{LineTest}
 use Rattle.std.specs.Option.{option_and_then}
 use Rattle.std.proofs.Math.Seq.{take-nil, drop-nil}
-use Rattle.std.proofs.lemmas.Bool.{and_parts, and_from, eqb-true}
+use Rattle.std.proofs.lemmas.Bool.{eqb-true}
 use Rattle.plinq_text.specs.declared.line_step.LineStep.{LineStep}
-use Rattle.plinq_text.specs.declared.line_step.LineStep.TheVariants.{Filter, Select, Take, Skip, TakeWhile, SkipWhile, Distinct}
+use Rattle.plinq_text.specs.declared.line_step.LineStep.TheVariants.{Filter, Select, Take, Skip, TakeWhile, SkipWhile, Distinct, Check, Failed}
 use Rattle.plinq_text.specs.declared.line_step.Fields.{Fields}
 use Rattle.plinq_text.specs.Fields.{fields_of}
 use Rattle.plinq_text.specs.Lines.{Line, AreFull, written}
-use Rattle.plinq_text.specs.declared.ready.ReadyStep.{ReadyStep}
-use Rattle.plinq_text.specs.inner.Ready.{does_ready, row_ready}
 use Rattle.plinq_text.specs.Steps.{distinct, has, key_of, with_text_seen}
-use Rattle.plinq_text.specs.Steps.{passes, with_text, apply, answer, does, after_one, later, row_does, row_after, left, made_line, made_lines}
-use Rattle.plinq_text.specs.Steps.{is_alone, are_alone, is_over, bytes_of}
+use Rattle.plinq_text.specs.Steps.{passes, with_text, apply, answer, does, after_one, later, row_does, row_after, left, made_line, is_over, bytes_of}
 use Rattle.plinq_text.proofs.FieldLaws.{is_text-fields}
 
 kept-one : (b : Bool) (l : Line) (rest : List Line) → cond b (l ∷ rest) rest ≡ cons_option (option_map (with_text l) (cond b (Some l.text) None)) rest
@@ -27,6 +24,11 @@ taken-while : (b : Bool) (t : LineTest) (l : Line) (ls : List Line) → cond b (
     ≡ cons_option (option_map (with_text l) (cond b (Some l.text) None)) (apply (cond b (TakeWhile t) (Take 0)) ls)
 taken-while true t l ls = refl
 taken-while false t l ls = refl
+
+checked : (b : Bool) (t : LineTest) (l : Line) (ls : List Line) → cond b (l ∷ take_while (λ m. passes t m.text) ls) []
+    ≡ cons_option (option_map (with_text l) (cond b (Some l.text) None)) (apply (cond b (Check t) Failed) ls)
+checked true t l ls = refl
+checked false t l ls = refl
 
 skipped-while : (b : Bool) (t : LineTest) (l : Line) (ls : List Line) → drop (cond b (1 + prefix_len (λ m. passes t m.text) ls) 0) (l ∷ ls)
     ≡ cons_option (option_map (with_text l) (cond b None (Some l.text))) (apply (cond b (SkipWhile t) (Skip 0)) ls)
@@ -59,6 +61,8 @@ apply-cons (Skip (suc n)) l ls = let on : n ≡ suc n - 1 = omega arith in ap (�
 apply-cons (TakeWhile t) l ls = take_while-cons (λ m. passes t m.text) l ls ∙ taken-while (passes t l.text) t l ls
 apply-cons (SkipWhile t) l ls = skipped-while (passes t l.text) t l ls
 apply-cons (Distinct k) l ls = distinct-cons k.key k.seen l ls
+apply-cons (Check t) l ls = take_while-cons (λ m. passes t m.text) l ls ∙ checked (passes t l.text) t l ls
+apply-cons Failed l ls = refl
 
 apply-nil : (s : LineStep) → apply s [] ≡ []
 apply-nil (Filter t) = refl
@@ -68,6 +72,8 @@ apply-nil (Skip n) = drop-nil n
 apply-nil (TakeWhile t) = refl
 apply-nil (SkipWhile t) = refl
 apply-nil (Distinct k) = distinct-nil k.key k.seen
+apply-nil (Check t) = refl
+apply-nil Failed = refl
 
 pub answer-nil : (ss : List LineStep) → answer ss [] ≡ []
 unfolding answer
@@ -113,78 +119,6 @@ unfolding answer
 answer-split [] c ls = refl
 answer-split (s ∷ w) c ls = answer-split w c (apply s ls)
 
-stays : (s : LineStep) → is_alone s ≡ true → (text : List ℕ) → after_one s text ≡ s
-stays (Filter t) is text = refl
-stays (Select f) is text = refl
-stays (Skip n) is text = let none : n ≡ 0 = eqb-true n 0 is in ap Skip (omega arith)
-stays (Take n) is text = absurd (cc)
-stays (TakeWhile t) is text = absurd (cc)
-stays (SkipWhile t) is text = absurd (cc)
-stays (Distinct k) is text = absurd (cc)
-
--- of steps that look at each line alone all is left
-pub row_after-alone : (w : List LineStep) → are_alone w ≡ true → (text : List ℕ) → row_after w text ≡ w
-unfolding row_after
-row_after-alone [] is text = refl
-row_after-alone (s ∷ w) is text =
-    let parts = and_parts _ _ is in
-    ap (λ x. x ∷ later w (row_after w) (does s text)) (stays s parts.0 text) ∙ ap (λ x. s ∷ x) (by (λ t. row_after-alone w parts.1 t) (does s text))
-  where
-    by : ((t : List ℕ) → row_after w t ≡ w) → (o : Option (List ℕ)) → later w (row_after w) o ≡ w
-    by each None = refl
-    by each (Some t) = each t
-
-pub left-alone : (w : List LineStep) → are_alone w ≡ true → (ls : List Line) → left w ls ≡ w
-unfolding left
-left-alone w is [] = refl
-left-alone w is (l ∷ ls) = ap (λ x. left x ls) (row_after-alone w is l.text) ∙ left-alone w is ls
-
--- they make of lines what they make of each
-pub answer-alone : (w : List LineStep) → are_alone w ≡ true → (ls : List Line) → answer w ls ≡ made_lines (row_does w) ls
-answer-alone w is [] = answer-nil w
-answer-alone w is (l ∷ ls) =
-    answer-cons w l ls
-    ∙ ap (λ x. cons_option (made_line (row_does w) l) (answer x ls)) (row_after-alone w is l.text)
-    ∙ ap (cons_option (made_line (row_does w) l)) (answer-alone w is ls)
-
-row_after-split : (w c : List LineStep) → are_alone w ≡ true → (text : List ℕ) → row_after (w ++ c) text ≡ w ++ later c (row_after c) (row_does w text)
-unfolding row_after row_does
-row_after-split [] c is text = refl
-row_after-split (s ∷ w) c is text =
-    let parts = and_parts _ _ is in
-    ap (λ x. x ∷ later (w ++ c) (row_after (w ++ c)) (does s text)) (stays s parts.0 text) ∙ ap (λ x. s ∷ x)
-    (by (λ t. row_after-split w c parts.1 t) (does s text))
-  where
-    by : ((t : List ℕ) → row_after (w ++ c) t ≡ w ++ later c (row_after c) (row_does w t)) → (o : Option (List ℕ))
-        → later (w ++ c) (row_after (w ++ c)) o ≡ w ++ later c (row_after c) (option_and_then (row_does w) o)
-    by each None = refl
-    by each (Some t) = each t
-
--- what is left of steps in two parts, of which the first look at each line alone
-pub left-split : (w c : List LineStep) → are_alone w ≡ true → (ls : List Line) → left (w ++ c) ls ≡ w ++ left c (answer w ls)
-unfolding left
-left-split w c is [] = ap (λ x. w ++ left c x) (sym (answer-nil w))
-left-split w c is (l ∷ ls) =
-    ap (λ x. left x ls) (row_after-split w c is l.text)
-    ∙ by (λ d. left-split w d is ls) (row_does w l.text)
-    ∙ ap (λ x. w ++ left c x) (sym (answer-cons w l ls ∙ ap (λ x. cons_option (made_line (row_does w) l) (answer x ls)) (row_after-alone w is l.text)))
-  where
-    by : ((d : List LineStep) → left (w ++ d) ls ≡ w ++ left d (answer w ls)) → (o : Option (List ℕ)) → left (w ++ later c (row_after c) o)
-        ls ≡ w ++ left c (cons_option (option_map (with_text l) o) (answer w ls))
-    by each None = each c
-    by each (Some text) = each (row_after c text)
-
--- the first steps that look at each line alone
-pub are_alone-take : (ss : List LineStep) → are_alone (take (prefix_len is_alone ss) ss) ≡ true
-are_alone-take [] = refl
-are_alone-take (s ∷ ss) = by (are_alone-take ss) (is_alone s) refl
-  where
-    by : are_alone (take (prefix_len is_alone ss) ss) ≡ true → (b : Bool) → is_alone s ≡ b → are_alone
-        (take (cond b (1 + prefix_len is_alone ss) 0) (s ∷ ss)) ≡ true
-    by rest false is = refl
-    by rest true is = let on : 1 + prefix_len is_alone ss ≡ suc (prefix_len is_alone ss) = omega arith in
-        ap (λ n. are_alone (take n (s ∷ ss))) on ∙ and_from _ _ is rest
-
 -- once a Take has nothing left, nothing comes
 pub answer-over : (ss : List LineStep) → is_over ss ≡ true → (ls : List Line) → answer ss ls ≡ []
 unfolding answer
@@ -200,6 +134,8 @@ answer-over (Skip n ∷ ss) is ls = answer-over ss is (drop n ls)
 answer-over (TakeWhile t ∷ ss) is ls = answer-over ss is (take_while (λ l. passes t l.text) ls)
 answer-over (SkipWhile t ∷ ss) is ls = answer-over ss is (drop (prefix_len (λ l. passes t l.text) ls) ls)
 answer-over (Distinct k ∷ ss) is ls = answer-over ss is (distinct k.key k.seen ls)
+answer-over (Check t ∷ ss) is ls = answer-over ss is (take_while (λ l. passes t l.text) ls)
+answer-over (Failed ∷ ss) is ls = answer-nil ss
 
 -- full lines stay full
 full-filter : (p : Line → Bool) (ls : List Line) → AreFull ls → AreFull (filter p ls)
@@ -240,7 +176,7 @@ full-distinct key seen (l ∷ ls) full =
     by false same more = (full.0, full.1, more)
 
 pub full-answer : (ss : List LineStep) (ls : List Line) → AreFull ls → AreFull (answer ss ls)
-unfolding answer
+unfolding answer AreFull
 full-answer [] ls full = full
 full-answer (Filter t ∷ ss) ls full = full-answer ss _ (full-filter _ ls full)
 full-answer (Select f ∷ ss) ls full = full-answer ss _ (full-select f ls full)
@@ -249,64 +185,14 @@ full-answer (Skip n ∷ ss) ls full = full-answer ss _ (full-drop n ls full)
 full-answer (TakeWhile t ∷ ss) ls full = full-answer ss _ (full-take (prefix_len (λ l. passes t l.text) ls) ls full)
 full-answer (SkipWhile t ∷ ss) ls full = full-answer ss _ (full-drop (prefix_len (λ l. passes t l.text) ls) ls full)
 full-answer (Distinct k ∷ ss) ls full = full-answer ss _ (full-distinct k.key k.seen ls full)
+full-answer (Check t ∷ ss) ls full = full-answer ss _ (full-take (prefix_len (λ l. passes t l.text) ls) ls full)
+full-answer (Failed ∷ ss) ls full = full-answer ss [] tt
 
 -- what is written of a line and of the others
 pub written-cons : (o : Option (List ℕ)) (l : Line) (ls : List Line) → written
     (cons_option (option_map (with_text l) o) ls) ≡ bytes_of o l.end ++ written ls
 written-cons None l ls = refl
 written-cons (Some text) l ls = refl
-
--- what ready steps make of lines, with one step more
-pub row_does-push : (ss : List LineStep) (s : LineStep) (text : List ℕ) → row_does (ss ++ s ∷ []) text ≡ option_and_then (does s) (row_does ss text)
-unfolding row_does
-row_does-push [] s text = last (does s text)
-  where
-    last : (o : Option (List ℕ)) → option_and_then (row_does []) o ≡ o
-    last None = refl
-    last (Some t) = refl
-row_does-push (r ∷ ss) s text = by (λ t. row_does-push ss s t) (does r text)
-  where
-    by : ((t : List ℕ) → row_does (ss ++ s ∷ []) t ≡ option_and_then (does s) (row_does ss t)) → (o : Option (List ℕ))
-        → option_and_then (row_does (ss ++ s ∷ [])) o ≡ option_and_then (does s) (option_and_then (row_does ss) o)
-    by each None = refl
-    by each (Some t) = each t
-
-pub row_ready-push : (ss : List ReadyStep) (s : ReadyStep) (text : List ℕ) → row_ready (ss ++ s ∷ []) text ≡ option_and_then (does_ready s)
-    (row_ready ss text)
-unfolding row_ready
-row_ready-push [] s text = last (does_ready s text)
-  where
-    last : (o : Option (List ℕ)) → option_and_then (row_ready []) o ≡ o
-    last None = refl
-    last (Some t) = refl
-row_ready-push (r ∷ ss) s text = by (λ t. row_ready-push ss s t) (does_ready r text)
-  where
-    by : ((t : List ℕ) → row_ready (ss ++ s ∷ []) t ≡ option_and_then (does_ready s) (row_ready ss t)) → (o : Option (List ℕ))
-        → option_and_then (row_ready (ss ++ s ∷ [])) o ≡ option_and_then (does_ready s) (option_and_then (row_ready ss) o)
-    by each None = refl
-    by each (Some t) = each t
-
-pub row_nil : (text : List ℕ) → row_ready [] text ≡ row_does [] text
-unfolding row_ready row_does
-row_nil text = refl
-
--- steps that agree on each text, each with one step more
-pub rows-agree : (rs : List ReadyStep) (ss : List LineStep) (r : ReadyStep) (s : LineStep) → ((text : List ℕ) → row_ready rs text ≡ row_does ss text)
-    → ((text : List ℕ) → does_ready r text ≡ does s text) → (text : List ℕ) → row_ready (rs ++ r ∷ []) text ≡ row_does (ss ++ s ∷ []) text
-rows-agree rs ss r s rows one text =
-    row_ready-push rs r text ∙ ap (option_and_then (does_ready r)) (rows text) ∙ by (row_does ss text) ∙ sym (row_does-push ss s text)
-  where
-    by : (o : Option (List ℕ)) → option_and_then (does_ready r) o ≡ option_and_then (does s) o
-    by None = refl
-    by (Some t) = one t
-
--- what rows make that agree on each text
-pub rows-make : (rs : List ReadyStep) (ss : List LineStep) → ((text : List ℕ) → row_ready rs text ≡ row_does ss text) → (ls : List Line)
-    → made_lines (row_ready rs) ls ≡ made_lines (row_does ss) ls
-rows-make rs ss rows [] = refl
-rows-make rs ss rows (l ∷ ls) =
-    ap (λ o. cons_option (option_map (with_text l) o) (made_lines (row_ready rs) ls)) (rows l.text)
-    ∙ ap (cons_option (made_line (row_does ss) l)) (rows-make rs ss rows ls)
 
 pub left-nil : (ss : List LineStep) → left ss [] ≡ ss
 unfolding left
@@ -315,3 +201,8 @@ left-nil ss = refl
 pub left-cons : (ss : List LineStep) (l : Line) (ls : List Line) → left ss (l ∷ ls) ≡ left (row_after ss l.text) ls
 unfolding left
 left-cons ss l ls = refl
+
+pub left-none : (ls : List Line) → left [] ls ≡ []
+unfolding left row_after
+left-none [] = refl
+left-none (l ∷ ls) = left-none ls

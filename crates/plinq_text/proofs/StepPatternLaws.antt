@@ -1,7 +1,7 @@
 -- Steps and their patterns, in parts.
 use Rattle.std.proofs.Common.{◌≡◌, ℕ, zero, suc, ◌<◌, ◌≤◌, List, [], ◌∷◌, ◌++◌, map, get_or, length, take, drop, Option, arith, refl}
 use Rattle.plinq_text.specs.declared.line_step.LineStep.{LineStep}
-use Rattle.plinq_text.specs.declared.line_step.LineStep.TheVariants.{Filter, Select, Take, Skip, TakeWhile, SkipWhile, Distinct}
+use Rattle.plinq_text.specs.declared.line_step.LineStep.TheVariants.{Filter, Select, Take, Skip, TakeWhile, SkipWhile, Distinct, Check, Failed}
 use Rattle.plinq_text.specs.StepPatterns.{ArePatternsOf, IsPatternOf, pattern_of_step}
 
 -- the patterns of steps are what their searchers are to search for
@@ -15,6 +15,8 @@ patterns-fit (Skip n ∷ ss) = (tt, patterns-fit ss)
 patterns-fit (TakeWhile t ∷ ss) = (refl, patterns-fit ss)
 patterns-fit (SkipWhile t ∷ ss) = (refl, patterns-fit ss)
 patterns-fit (Distinct k ∷ ss) = (tt, patterns-fit ss)
+patterns-fit (Check t ∷ ss) = (refl, patterns-fit ss)
+patterns-fit (Failed ∷ ss) = (tt, patterns-fit ss)
 
 -- there are as many patterns as steps
 pub as-many : (ss : List LineStep) (ps : List (Option (List ℕ))) → ArePatternsOf ss ps → length ss ≤ length ps

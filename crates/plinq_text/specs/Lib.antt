@@ -3,6 +3,9 @@ pub mod Fields
 pub mod Lines
 pub mod inner
 pub mod LineRows
+pub mod NumberRows
+pub mod Numbers
 pub mod Patterns
+pub mod Steady
 pub mod StepPatterns
 pub mod Steps

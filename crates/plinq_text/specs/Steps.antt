@@ -1,23 +1,30 @@
 -- What the steps of a query make of lines.
 use Rattle.std.specs.Prelude.{ℕ, zero, suc, ◌-◌, ◌==◌, nat_eq, ◌||◌, ◌&&◌, Bool, true, false, not, if◌then◌else◌, List, [], ◌∷◌, ◌++◌, take}
-use Rattle.std.specs.Prelude.{drop, map, filter, Option, Some, None, is_some, option_map, option_and_then, filter_map, string_bytes}
+use Rattle.std.specs.Prelude.{drop, map, filter, Option, Some, None, is_some, option_map, option_and_then, string_bytes, ℤ, int_lt, ◌+◌}
+use Rattle.std.specs.Ordering.{int_eq}
 use Rattle.std.specs.List.{starts_with, ends_with, prefix_len, take_while, list_any}
 use Rattle.std.specs.Str.{bytes_eq}
 use Rattle.memchr.specs.Find.{first_of, matches}
 use Rattle.plinq_text.specs.declared.line_step.Field.{Field}
 use Rattle.plinq_text.specs.declared.line_step.Fields.{Fields}
 use Rattle.plinq_text.specs.declared.line_step.LineStep.{LineStep}
-use Rattle.plinq_text.specs.declared.line_step.LineStep.TheVariants.{Filter, Select, Take, Skip, TakeWhile, SkipWhile, Distinct}
+use Rattle.plinq_text.specs.declared.line_step.LineStep.TheVariants.{Filter, Select, Take, Skip, TakeWhile, SkipWhile, Distinct, Check, Failed}
 use Rattle.plinq_text.specs.declared.line_test.LineTest.{LineTest}
 use Rattle.plinq_text.specs.declared.line_test.TestKind.{TestKind}
-use Rattle.plinq_text.specs.declared.line_test.TestKind.TheVariants.{Contains, StartsWith, EndsWith, Is, Matches}
+use Rattle.plinq_text.specs.declared.line_test.TestKind.TheVariants.{Contains, StartsWith, EndsWith, Is, Matches, IsNumber, Below, Above, Equal}
 use Rattle.plinq_text.specs.Fields.{field_of, fields_of}
+use Rattle.plinq_text.specs.Numbers.{number_of}
 use Rattle.plinq_text.specs.Patterns.{pattern_finds}
 use Rattle.plinq_text.specs.Lines.{Line, lines_of, written}
 
 -- whether these bytes stand somewhere in a text
 abbrev pub contains : List ℕ → List ℕ → Bool
 contains bytes text = is_some (first_of (matches text bytes 0))
+
+-- whether there is a number that passes
+abbrev pub number_passes : (ℤ → Bool) → Option ℤ → Bool
+number_passes test None = false
+number_passes test (Some x) = test x
 
 -- whether bytes compare so with a text
 abbrev pub compares : TestKind → List ℕ → List ℕ → Bool
@@ -26,6 +33,10 @@ compares StartsWith wanted bytes = starts_with nat_eq bytes wanted
 compares EndsWith wanted bytes = ends_with nat_eq bytes wanted
 compares Is wanted bytes = bytes_eq bytes wanted
 compares Matches pattern bytes = pattern_finds pattern bytes
+compares IsNumber wanted bytes = is_some (number_of bytes)
+compares (Below n) wanted bytes = number_passes (λ x. int_lt x n.billionths) (number_of bytes)
+compares (Above n) wanted bytes = number_passes (λ x. int_lt n.billionths x) (number_of bytes)
+compares (Equal n) wanted bytes = number_passes (λ x. int_eq x n.billionths) (number_of bytes)
 
 -- what a test looks at: a field of a text, or all of it
 abbrev pub subject : Option Field → List ℕ → List ℕ
@@ -72,6 +83,8 @@ apply (Skip n) ls = drop n ls
 apply (TakeWhile t) ls = take_while (λ l. passes t l.text) ls
 apply (SkipWhile t) ls = drop (prefix_len (λ l. passes t l.text) ls) ls
 apply (Distinct k) ls = distinct k.key k.seen ls
+apply (Check t) ls = take_while (λ l. passes t l.text) ls
+apply Failed ls = []
 
 -- what steps make of lines, one after another
 unfoldable pub answer : List LineStep → List Line → List Line
@@ -93,6 +106,8 @@ does (Skip (suc n)) text = None
 does (TakeWhile t) text = if passes t text then Some text else None
 does (SkipWhile t) text = if passes t text then None else Some text
 does (Distinct k) text = if has k.seen (key_of k.key text) then None else Some text
+does (Check t) text = if passes t text then Some text else None
+does Failed text = None
 
 -- what is left of a step once a line of this text came to it
 abbrev pub after_one : LineStep → List ℕ → LineStep
@@ -103,6 +118,8 @@ after_one (Skip n) text = Skip (n - 1)
 after_one (TakeWhile t) text = if passes t text then TakeWhile t else Take 0
 after_one (SkipWhile t) text = if passes t text then SkipWhile t else Skip 0
 after_one (Distinct k) text = Distinct (record { key = k.key; seen = with_text_seen k.seen (key_of k.key text) })
+after_one (Check t) text = if passes t text then Check t else Failed
+after_one Failed text = Failed
 
 -- what a row of steps makes of the text of one line, if the line passes
 unfoldable pub row_does : List LineStep → List ℕ → Option (List ℕ)
@@ -127,30 +144,7 @@ left ss (l ∷ ls) = left (row_after ss l.text) ls
 abbrev pub made_line : (List ℕ → Option (List ℕ)) → Line → Option Line
 made_line f l = option_map (with_text l) (f l.text)
 
--- what becomes of lines of which each is looked at alone
-abbrev pub made_lines : (List ℕ → Option (List ℕ)) → List Line → List Line
-made_lines f ls = filter_map (made_line f) ls
-
--- what is written of a text whose lines come to each of the steps as it is
-abbrev pub made_text : List LineStep → List ℕ → List ℕ
-made_text ss text = written (made_lines (row_does ss) (lines_of text))
-
--- whether a step looks at each line alone
-abbrev pub is_alone : LineStep → Bool
-is_alone (Filter t) = true
-is_alone (Select f) = true
-is_alone (Take n) = false
-is_alone (Skip n) = n == 0
-is_alone (TakeWhile t) = false
-is_alone (SkipWhile t) = false
-is_alone (Distinct k) = false
-
--- whether each of these steps does
-abbrev pub are_alone : List LineStep → Bool
-are_alone [] = true
-are_alone (s ∷ ss) = is_alone s && are_alone ss
-
--- whether a step is a Take that has nothing left to take
+-- whether a step is a Take that has nothing left to take, or a check that a line failed
 abbrev pub takes_none : LineStep → Bool
 takes_none (Take n) = n == 0
 takes_none (Filter t) = false
@@ -159,11 +153,35 @@ takes_none (Skip n) = false
 takes_none (TakeWhile t) = false
 takes_none (SkipWhile t) = false
 takes_none (Distinct k) = false
+takes_none (Check t) = false
+takes_none Failed = true
 
 -- whether no line more can come out of these steps
 abbrev pub is_over : List LineStep → Bool
 is_over [] = false
 is_over (s ∷ ss) = takes_none s || is_over ss
+
+-- whether a step is a check that a line failed
+abbrev pub is_failed : LineStep → Bool
+is_failed (Filter t) = false
+is_failed (Select f) = false
+is_failed (Take n) = false
+is_failed (Skip n) = false
+is_failed (TakeWhile t) = false
+is_failed (SkipWhile t) = false
+is_failed (Distinct k) = false
+is_failed (Check t) = false
+is_failed Failed = true
+
+-- whether a line failed a check while a line could still come out of the steps after it
+abbrev pub has_failed : List LineStep → Bool
+has_failed [] = false
+has_failed (s ∷ ss) = (is_failed s && not (is_over ss)) || has_failed ss
+
+-- how many lines come before the first that fails a check, if one does
+unfoldable pub bad_line : List LineStep → List Line → Option ℕ
+bad_line ss [] = None
+bad_line ss (l ∷ ls) = if has_failed (row_after ss l.text) then Some 0 else option_map (λ n. n + 1) (bad_line (row_after ss l.text) ls)
 
 -- a line's text and what ends it, if there is a text
 abbrev pub bytes_of : Option (List ℕ) → List ℕ → List ℕ

@@ -3,7 +3,7 @@ ghost use Rattle.std.specs.List.{prefix_len};
 ghost use Rattle.plinq_text.specs.Fields.{after_blanks, field_between, field_of, fields, fields_of, from_column, from_field, from_word};
 ghost use Rattle.plinq_text.specs.Fields.{further, glue, is_blank, place_of, rest};
 ghost use Rattle.plinq_text.specs.inner.FirstFields.{first_field};
-ghost use Rattle.plinq_text.specs.inner.Outcomes.{text_of};
+ghost use Rattle.plinq_text.specs.inner.Outcomes.{steady_of, text_of};
 
 use crate::line_step::{Field, Fields, Separator};
 use crate::outcome::{Outcome, Spares};
@@ -51,7 +51,8 @@ pub(crate) fn select<'t>(
     which: &Fields,
     spares: &mut Spares,
 ) -> Result<Outcome<'t>, AllocError>
-    ensures { IfOk result (λ outcome. text_of outcome ≡ Some (fields_of which.now text.now)) }
+    ensures text { IfOk result (λ outcome. text_of outcome ≡ Some (fields_of which.now text.now)) }
+    ensures steady { IfOk result (λ outcome. steady_of outcome ≡ Some (Some (fields_of which.now text.now))) }
 {
     let separator = which.separator;
     match which.indexes.as_slice() {
@@ -161,8 +162,28 @@ fn from_word(text: &[u8], index: u64) -> &[u8]
     skip_blanks(rest)
 }
 
+/// A text in two parts.
+#[derive(Clone, Copy)]
+pub struct Parts<'t> {
+    /// What stands before the first separator; all of it if there is none.
+    pub before: &'t [u8],
+    /// What comes after it.
+    pub after: &'t [u8],
+}
+
+/// A text, parted at the first byte of this value.
+pub fn part_at(text: &[u8], byte: u8) -> Parts<'_>
+    ensures before { result.before.now ≡ take (place_of (λ b. b == byte) text.now) text.now }
+    ensures after { result.after.now ≡ drop (place_of (λ b. b == byte) text.now + 1) text.now }
+{
+    Parts {
+        before: before(text, byte),
+        after: after(text, byte),
+    }
+}
+
 /// What stands before the first byte of this value.
-fn before(text: &[u8], byte: u8) -> &[u8]
+pub(crate) fn before(text: &[u8], byte: u8) -> &[u8]
     ensures { result.now ≡ take (place_of (λ b. b == byte) text.now) text.now }
 {
     match memchr(byte, text) {
@@ -172,7 +193,7 @@ fn before(text: &[u8], byte: u8) -> &[u8]
 }
 
 /// What stands after it.
-fn after(text: &[u8], byte: u8) -> &[u8]
+pub(crate) fn after(text: &[u8], byte: u8) -> &[u8]
     ensures { result.now ≡ drop (place_of (λ b. b == byte) text.now + 1) text.now }
 {
     match memchr(byte, text) {

@@ -20,32 +20,10 @@ pub(crate) fn is_new(
         return known.seen.see(text);
     };
     match select(text, fields, spares)? {
-        Outcome::Gone => Ok(false),
+        Outcome::Changes | Outcome::Gone => Ok(false),
         Outcome::Text(key) => known.seen.see(key),
         Outcome::Made(key) => {
             let is_new = known.seen.see(key.as_slice())?;
-            spares.give_back(key)?;
-            Ok(is_new)
-        }
-    }
-}
-
-/// Whether a text's key is new.
-pub(crate) fn would_be_new(
-    known: &Known,
-    spares: &mut Spares,
-    text: &[u8],
-) -> Result<bool, AllocError>
-    ensures { IfOk result (λ is_new. is_new ≡ not (has known.now.seen (key_of known.now.key text.now))) }
-{
-    let Some(fields) = &known.key else {
-        return Ok(!known.seen.has(text));
-    };
-    match select(text, fields, spares)? {
-        Outcome::Gone => Ok(false),
-        Outcome::Text(key) => Ok(!known.seen.has(key)),
-        Outcome::Made(key) => {
-            let is_new = !known.seen.has(key.as_slice());
             spares.give_back(key)?;
             Ok(is_new)
         }

@@ -18,6 +18,10 @@ pub enum LineStep {
     SkipWhile(LineTest),
     /// The lines whose text, or fields of it, didn't come before (.NET's `Distinct` and `DistinctBy`).
     Distinct(Known),
+    /// The lines before the first whose text fails the test. That one is a mistake: `Failed` is left of the step then.
+    Check(LineTest),
+    /// No line, since one failed its check.
+    Failed,
 }
 
 /// A part of a line's text, as `cut` and awk have it.

@@ -4,6 +4,7 @@ ghost use Rattle.plinq_text.specs.StepPatterns.{pattern_for, pattern_of};
 
 use crate::fields::field;
 use crate::line_step::Field;
+use crate::number::{Number, number_of};
 use crate::pattern::Searcher;
 use memchr::memmem;
 
@@ -33,6 +34,14 @@ pub enum TestKind {
     Is,
     /// The text is a regular expression, with the syntax of Rust's `regex`, and matches somewhere in them.
     Matches,
+    /// They are a number, as [`number_of`](crate::number_of) reads it. The text isn't looked at here and below.
+    IsNumber,
+    /// They are a number less than this one.
+    Below(Number),
+    /// They are a number greater than this one.
+    Above(Number),
+    /// They are this number.
+    Equal(Number),
 }
 
 /// Whether a line's text passes the test, of which `searcher` searches for the pattern if it has one.
@@ -67,5 +76,18 @@ fn compares(kind: TestKind, wanted: &[u8], searcher: &mut Searcher<'_>, text: &[
         TestKind::EndsWith => text.ends_with(wanted),
         TestKind::Is => text == wanted,
         TestKind::Matches => searcher.finds(text),
+        TestKind::IsNumber => number_of(text).is_some(),
+        TestKind::Below(least) => match number_of(text) {
+            Some(number) => number.billionths < least.billionths,
+            None => false,
+        },
+        TestKind::Above(most) => match number_of(text) {
+            Some(number) => number.billionths > most.billionths,
+            None => false,
+        },
+        TestKind::Equal(wanted) => match number_of(text) {
+            Some(number) => number.billionths == wanted.billionths,
+            None => false,
+        },
     }
 }

@@ -1,8 +1,8 @@
-ghost use Rattle.std.specs.Prelude.{◌≡◌, ◌++◌, All, IfOk};
-ghost use Rattle.plinq_text.specs.Lines.{lines_of, written};
-ghost use Rattle.plinq_text.specs.StepPatterns.{ArePatternsOf};
+ghost use Rattle.std.specs.Prelude.{◌≡◌, true, All, IfOk};
 ghost use Rattle.plinq_text.specs.inner.Ready.{IsReady, row_ready};
-ghost use Rattle.plinq_text.specs.Steps.{made_lines, made_text};
+ghost use Rattle.plinq_text.specs.Lines.{lines_of};
+ghost use Rattle.plinq_text.specs.Steady.{AreMade, are_steady, made_steady, steady_lines};
+ghost use Rattle.plinq_text.specs.StepPatterns.{ArePatternsOf};
 
 use crate::line_step::LineStep;
 use crate::outcome::Spares;
@@ -11,8 +11,8 @@ use crate::ready::{ReadyStep, put_through, ready};
 use crate::splitting::first_line;
 use std::alloc::{AllocError, Global};
 
-/// Appends what the steps make of a text's lines, each of which comes to them as they are. That is their answer if they look at
-/// each line alone. The patterns are those of [`patterns`](crate::patterns).
+/// Appends what steady steps make of a text's lines, and says whether each step is as it was then. If one isn't, some of it may be
+/// appended. The patterns are those of [`patterns`](crate::patterns).
 ///
 /// # Errors
 ///
@@ -23,9 +23,10 @@ pub fn make_lines(
     patterns: &[Pattern],
     text: &[u8],
     out: &mut Vec<u8>,
-) -> Result<(), AllocError>
-    requires { ArePatternsOf steps.now patterns.now }
-    ensures { IfOk result (λ _. out.new.items ≡ out.old.items ++ made_text steps.now text.now) }
+) -> Result<bool, AllocError>
+    requires patterns { ArePatternsOf steps.now patterns.now }
+    requires steady { are_steady steps.now ≡ true }
+    ensures { IfOk result (λ stay. AreMade (steady_lines steps.now (lines_of text.now)) out.old.items out.new.items stay) }
 {
     let mut ready = ready(alloc, steps, patterns)?;
     let mut spares = Spares::new(alloc);
@@ -37,14 +38,16 @@ fn make_ready(
     spares: &mut Spares,
     text: &[u8],
     out: &mut Vec<u8>,
-) -> Result<(), AllocError>
+) -> Result<bool, AllocError>
     requires { All IsReady steps.old }
-    ensures { IfOk result (λ _. out.new.items ≡ out.old.items ++ written (made_lines (row_ready steps.old) (lines_of text.now))) }
+    ensures { IfOk result (λ stay. AreMade (made_steady (row_ready steps.old) (lines_of text.now)) out.old.items out.new.items stay) }
 {
     let mut rest = text;
     while let Some(line) = first_line(rest) {
-        put_through(steps, spares, 0, line.text, line.end, out)?;
+        if !put_through(steps, spares, 0, line.text, line.end, out)? {
+            return Ok(false);
+        }
         rest = line.rest;
     }
-    Ok(())
+    Ok(true)
 }

@@ -1,11 +1,13 @@
-ghost use Rattle.std.specs.Prelude.{◌≡◌, []};
-ghost use Rattle.plinq_text.specs.inner.Outcomes.{kept_if, text_of};
+ghost use Rattle.std.specs.Prelude.{◌≡◌, [], Some, None, if◌then◌else◌};
+ghost use Rattle.plinq_text.specs.inner.Outcomes.{kept_if, steady_of, text_of};
 
 use std::alloc::{AllocError, Global};
 
 /// What becomes of the text of a line by a step.
 #[derive(Drop)]
 pub(crate) enum Outcome<'t> {
+    /// The step changes by it, so that it isn't made here.
+    Changes,
     /// The line doesn't pass.
     Gone,
     /// It passes, with the text or a part of it.
@@ -16,12 +18,35 @@ pub(crate) enum Outcome<'t> {
 
 /// The text, if the line passes.
 pub(crate) fn text_if(passes: bool, text: &[u8]) -> Outcome<'_>
-    ensures { text_of result ≡ kept_if passes text.now }
+    ensures text { text_of result ≡ kept_if passes text.now }
+    ensures steady { steady_of result ≡ Some (kept_if passes text.now) }
 {
     if passes {
         Outcome::Text(text)
     } else {
         Outcome::Gone
+    }
+}
+
+/// The text, if the line passes, or else the step changes.
+pub(crate) fn text_while(passes: bool, text: &[u8]) -> Outcome<'_>
+    ensures { steady_of result ≡ (if passes then Some (Some text.now) else None) }
+{
+    if passes {
+        Outcome::Text(text)
+    } else {
+        Outcome::Changes
+    }
+}
+
+/// Nothing while lines are left out, or else the step changes.
+pub(crate) fn gone_while<'t>(passes: bool) -> Outcome<'t>
+    ensures { steady_of result ≡ (if passes then Some None else None) }
+{
+    if passes {
+        Outcome::Gone
+    } else {
+        Outcome::Changes
     }
 }
 

@@ -51,9 +51,11 @@ impl Pattern {
             LineStep::Filter(test) => Pattern::of_test(alloc, test),
             LineStep::TakeWhile(test) => Pattern::of_test(alloc, test),
             LineStep::SkipWhile(test) => Pattern::of_test(alloc, test),
-            LineStep::Select(_) | LineStep::Take(_) | LineStep::Skip(_) | LineStep::Distinct(_) => {
+            LineStep::Check(test) => Pattern::of_test(alloc, test),
+            LineStep::Select(_) | LineStep::Take(_) | LineStep::Skip(_) => {
                 Ok(Pattern { regex: None })
             }
+            LineStep::Distinct(_) | LineStep::Failed => Ok(Pattern { regex: None }),
         }
     }
 }

@@ -1,15 +1,15 @@
-ghost use Rattle.std.specs.Prelude.{◌≡◌, ℕ, List, ◌++◌, All, IfOk, drop};
-ghost use Rattle.plinq_text.specs.inner.Outcomes.{text_of};
-ghost use Rattle.plinq_text.specs.inner.Ready.{IsReady, does_ready, row_ready};
-ghost use Rattle.plinq_text.specs.StepPatterns.{ArePatternsOf, IsPatternOf, pattern_of};
-ghost use Rattle.plinq_text.specs.Steps.{bytes_of, contains, does, passes, row_does};
+ghost use Rattle.std.specs.Prelude.{◌≡◌, true, ℕ, List, All, IfOk, drop};
 ghost use Rattle.plinq_text.specs.declared.line_step.LineStep.TheVariants.{Filter};
+ghost use Rattle.plinq_text.specs.inner.Outcomes.{steady_of};
+ghost use Rattle.plinq_text.specs.inner.Ready.{IsLineMade, IsReady, does_ready, row_ready};
+ghost use Rattle.plinq_text.specs.Steady.{are_steady, is_steady, row_steady, steady_one};
+ghost use Rattle.plinq_text.specs.StepPatterns.{ArePatternsOf, IsPatternOf, pattern_of};
+ghost use Rattle.plinq_text.specs.Steps.{contains};
 
 use crate::fields::select;
-use crate::known::would_be_new;
-use crate::line_step::{Fields, Known, LineStep};
+use crate::line_step::{Fields, LineStep};
 use crate::line_test::{LineTest, TestKind, passes};
-use crate::outcome::{Outcome, Spares, text_if};
+use crate::outcome::{Outcome, Spares, gone_while, text_if, text_while};
 use crate::pattern::{Pattern, Searcher};
 use crate::splitting::put_line;
 use memchr::memmem::Finder;
@@ -24,16 +24,14 @@ pub(crate) enum ReadyStep<'q> {
     SearchNot(Finder<'q>),
     /// Lets a line pass by another test.
     Test(Tester<'q>),
-    /// Lets a line pass that fails this test.
-    TestNot(Tester<'q>),
-    /// Lets a line pass that didn't come before.
-    Unknown(&'q Known),
+    /// Lets lines pass while they pass this test.
+    While(Tester<'q>),
+    /// Leaves lines out while they pass this test.
+    Until(Tester<'q>),
     /// Puts fields in the text's place.
     Parts(&'q Fields),
     /// Lets each line pass.
     Pass,
-    /// Lets none pass.
-    Nothing,
 }
 
 /// A test, and what searches for its pattern if it has one.
@@ -43,14 +41,15 @@ pub(crate) struct Tester<'q> {
     pub(crate) searcher: Searcher<'q>,
 }
 
-/// Makes steps ready, with their patterns, for lines that come to each of them as it is.
+/// Makes steps ready, with their patterns, for lines by which none of them changes.
 pub(crate) fn ready<'q>(
     alloc: Global,
     steps: &'q [LineStep],
     patterns: &'q [Pattern],
 ) -> Result<Vec<ReadyStep<'q>>, AllocError>
-    requires { ArePatternsOf steps.now patterns.now }
-    ensures same { IfOk result (λ made. (text : List ℕ) → row_ready made.items text ≡ row_does steps.now text) }
+    requires patterns { ArePatternsOf steps.now patterns.now }
+    requires steady { are_steady steps.now ≡ true }
+    ensures same { IfOk result (λ made. (text : List ℕ) → row_ready made.items text ≡ row_steady steps.now text) }
     ensures ready { IfOk result (λ made. All IsReady made.items) }
 {
     let mut made = Vec::new(alloc);
@@ -65,19 +64,22 @@ fn ready_step<'q>(
     step: &'q LineStep,
     pattern: &'q Pattern,
 ) -> Result<ReadyStep<'q>, AllocError>
-    requires { IsPatternOf step.now pattern.now }
-    ensures same { IfOk result (λ r. (text : List ℕ) → does_ready r text ≡ does step.now text) }
+    requires pattern { IsPatternOf step.now pattern.now }
+    requires steady { is_steady step.now ≡ true }
+    ensures same { IfOk result (λ r. (text : List ℕ) → does_ready r text ≡ steady_one step.now text) }
     ensures ready { IfOk result IsReady }
 {
     match step {
         LineStep::Filter(test) => ready_test(alloc, test, pattern),
         LineStep::Select(which) => Ok(ReadyStep::Parts(which)),
-        LineStep::Take(0) => Ok(ReadyStep::Nothing),
-        LineStep::Take(_) | LineStep::Skip(0) => Ok(ReadyStep::Pass),
-        LineStep::Skip(_) => Ok(ReadyStep::Nothing),
-        LineStep::TakeWhile(test) => Ok(ReadyStep::Test(make_tester(alloc, test, pattern)?)),
-        LineStep::SkipWhile(test) => Ok(ReadyStep::TestNot(make_tester(alloc, test, pattern)?)),
-        LineStep::Distinct(known) => Ok(ReadyStep::Unknown(known)),
+        LineStep::Skip(0) => Ok(ReadyStep::Pass),
+        LineStep::TakeWhile(test) | LineStep::Check(test) => {
+            Ok(ReadyStep::While(make_tester(alloc, test, pattern)?))
+        }
+        LineStep::SkipWhile(test) => Ok(ReadyStep::Until(make_tester(alloc, test, pattern)?)),
+        LineStep::Take(_) | LineStep::Skip(_) | LineStep::Distinct(_) | LineStep::Failed => {
+            unreachable!()
+        }
     }
 }
 
@@ -87,7 +89,7 @@ fn ready_test<'q>(
     pattern: &'q Pattern,
 ) -> Result<ReadyStep<'q>, AllocError>
     requires { pattern.now ≡ pattern_of test.now }
-    ensures same { IfOk result (λ r. (text : List ℕ) → does_ready r text ≡ does (Filter test.now) text) }
+    ensures same { IfOk result (λ r. (text : List ℕ) → does_ready r text ≡ steady_one (Filter test.now) text) }
     ensures ready { IfOk result IsReady }
 {
     if test.field.is_some() {
@@ -98,9 +100,7 @@ fn ready_test<'q>(
             Ok(ReadyStep::SearchNot(Finder::new(test.text.as_bytes())))
         }
         TestKind::Contains => Ok(ReadyStep::Search(Finder::new(test.text.as_bytes()))),
-        TestKind::StartsWith | TestKind::EndsWith | TestKind::Is | TestKind::Matches => {
-            Ok(ReadyStep::Test(make_tester(alloc, test, pattern)?))
-        }
+        _ => Ok(ReadyStep::Test(make_tester(alloc, test, pattern)?)),
     }
 }
 
@@ -119,7 +119,7 @@ fn make_tester<'q>(
     })
 }
 
-/// Appends what ready steps from a place on make of one line.
+/// Appends what ready steps from a place on make of one line, and says whether each stays as it is.
 #[tactic(auto, unfolding(crate::specs::inner::Ready::row_ready))]
 pub(crate) fn put_through(
     steps: &mut [ReadyStep<'_>],
@@ -128,20 +128,23 @@ pub(crate) fn put_through(
     text: &[u8],
     end: &[u8],
     out: &mut Vec<u8>,
-) -> Result<(), AllocError>
+) -> Result<bool, AllocError>
     requires { All IsReady steps.old }
-    ensures made { IfOk result (λ _. out.new.items ≡ out.old.items ++ bytes_of (row_ready (drop at steps.old) text.now) end.now) }
+    ensures made { IfOk result (λ stay. IsLineMade (row_ready (drop at steps.old) text.now) end.now out.old.items out.new.items stay) }
     ensures same { steps.new ≡ steps.old }
 {
     if at >= steps.len() {
-        return put_line(text, end, out);
+        put_line(text, end, out)?;
+        return Ok(true);
     }
     match through_one(&mut steps[at], spares, text)? {
-        Outcome::Gone => Ok(()),
+        Outcome::Changes => Ok(false),
+        Outcome::Gone => Ok(true),
         Outcome::Text(text) => put_through(steps, spares, at + 1, text, end, out),
         Outcome::Made(made) => {
-            put_through(steps, spares, at + 1, made.as_slice(), end, out)?;
-            spares.give_back(made)
+            let stay = put_through(steps, spares, at + 1, made.as_slice(), end, out)?;
+            spares.give_back(made)?;
+            Ok(stay)
         }
     }
 }
@@ -152,7 +155,7 @@ fn through_one<'t>(
     text: &'t [u8],
 ) -> Result<Outcome<'t>, AllocError>
     requires { IsReady step.old }
-    ensures does { IfOk result (λ outcome. text_of outcome ≡ does_ready step.old text.now) }
+    ensures does { IfOk result (λ outcome. steady_of outcome ≡ does_ready step.old text.now) }
     ensures same { step.new ≡ step.old }
 {
     match step {
@@ -162,14 +165,16 @@ fn through_one<'t>(
             let passes = passes(tester.test, &mut tester.searcher, text);
             Ok(text_if(passes, text))
         }
-        ReadyStep::TestNot(tester) => {
+        ReadyStep::While(tester) => {
             let passes = passes(tester.test, &mut tester.searcher, text);
-            Ok(text_if(!passes, text))
+            Ok(text_while(passes, text))
         }
-        ReadyStep::Unknown(known) => Ok(text_if(would_be_new(known, spares, text)?, text)),
+        ReadyStep::Until(tester) => {
+            let passes = passes(tester.test, &mut tester.searcher, text);
+            Ok(gone_while(passes))
+        }
         ReadyStep::Parts(which) => select(text, which, spares),
         ReadyStep::Pass => Ok(Outcome::Text(text)),
-        ReadyStep::Nothing => Ok(Outcome::Gone),
     }
 }
 

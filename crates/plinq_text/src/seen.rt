@@ -38,13 +38,6 @@ impl Seen {
         }
     }
 
-    /// Whether a text came.
-    pub(crate) fn has(&self, text: &[u8]) -> bool
-        ensures { result ≡ has self.now text.now }
-    {
-        self.texts.contains(text)
-    }
-
     /// Keeps a text, and says whether it is new.
     pub(crate) fn see(&mut self, text: &[u8]) -> Result<bool, AllocError>
         ensures value { IfOk result (λ is_new. is_new ≡ not (has self.old text.now)) }

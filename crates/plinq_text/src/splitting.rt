@@ -39,6 +39,19 @@ pub fn first_line(text: &[u8]) -> Option<LineAt<'_>>
     }
 }
 
+/// How many lines a text has.
+pub fn line_count(text: &[u8]) -> usize
+    ensures { result ≡ length (lines_of text.now) }
+{
+    let mut rest = text;
+    let mut count = 0;
+    while let Some(line) = first_line(rest) {
+        count += 1;
+        rest = line.rest;
+    }
+    count
+}
+
 /// Appends the text of a line and what ends it.
 pub(crate) fn put_line(text: &[u8], end: &[u8], out: &mut Vec<u8>) -> Result<(), AllocError>
     ensures { IfOk result (λ _. out.new.items ≡ out.old.items ++ (text.now ++ end.now)) }

@@ -14,5 +14,5 @@ mod tokens;
 mod words;
 
 pub use performing::perform_lines;
-pub use query::{LinesEnd, LinesQuery, read_query};
+pub use query::{FiguresEnd, LinesEnd, LinesQuery, read_query};
 pub use query_fault::QueryFault;

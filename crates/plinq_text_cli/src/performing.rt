@@ -1,14 +1,16 @@
 ghost use Rattle.std.specs.Prelude.{◌≤◌};
 
 use crate::ended::Ended;
-use crate::query::{LinesEnd, LinesQuery, read_query};
+use crate::query::{FiguresEnd, LinesEnd, LinesQuery, read_query};
 use crate::query_fault::QueryFault;
 use crate::words::{Asked, read_words};
 use clap::error::ErrorKind;
 use plinq_cli::WithCause;
-use plinq_rounds::{LinesFault, ReadBuffer, answer_lines, tally_lines, write_tally, write_total};
+use plinq_rounds::{
+    LinesFault, ReadBuffer, answer_lines, tally_lines, write_figures, write_tally, write_total,
+};
 use plinq_settings::Degree;
-use plinq_tally::Tally;
+use plinq_tally::{Figures, Tally, Told};
 use std::alloc::Global;
 use std::io::{Read, Write};
 use std::rt::Files;
@@ -30,13 +32,15 @@ struct Answering {
     buffer: ReadBuffer,
     /// What was counted, if the query ends in a count.
     tally: Tally,
+    /// What numbers come to, if it ends in a sum or its like.
+    figures: Figures,
 }
 
 /// Does what `plinq lines` does: reads a query from the words, of which the first is `lines`, and the lines of files or of `input`.
 /// Writes the answer to `out` and what is wrong to `err`, and returns the exit status.
 ///
-/// The status is 0 at the end of the answer and for help, 2 for refused words, and 5 if anything failed. Of a reader that has gone
-/// nothing is said.
+/// The status is 0 at the end of the answer and for help, 2 for refused words, 4 at a line that has no number where the query wants
+/// one, and 5 if anything failed. Of a reader that has gone nothing is said.
 pub fn perform_lines<R, I, W, E>(
     rt: &R,
     words: &[String],
@@ -87,12 +91,17 @@ where
         Some(workers) => workers,
         None => as_many_as_cores(rt),
     };
+    let separator = match query.end {
+        LinesEnd::Figures(end) => end.separator,
+        _ => b' ',
+    };
     let mut answering = Answering {
         alloc,
         workers,
         query,
         buffer: ReadBuffer::new(alloc, READ_BYTES),
         tally: Tally::new(alloc),
+        figures: Figures::new(alloc, separator),
     };
     let status = answer_files(rt, asked, &mut answering, input, out, err);
     if status != 0 {
@@ -137,7 +146,22 @@ fn write_counts<W: Write>(answering: &Answering, out: &mut W) -> Result<(), Line
         LinesEnd::Write => Ok(()),
         LinesEnd::Count => write_total(answering.alloc, &answering.tally, out),
         LinesEnd::CountBy => write_tally(answering.alloc, &answering.tally, out),
+        LinesEnd::Figures(end) => write_told(answering, end, out),
     }
+}
+
+/// Writes what numbers come to. The sum of none is 0; none of them has a least, a greatest or a mean.
+fn write_told<W: Write>(
+    answering: &Answering,
+    end: FiguresEnd,
+    out: &mut W,
+) -> Result<(), LinesFault> {
+    let figures = &answering.figures;
+    if figures.len() == 0 && end.told == Told::Sum && !end.is_by_key {
+        // (no line was counted)
+        return write_total(answering.alloc, &answering.tally, out);
+    }
+    write_figures(answering.alloc, figures, end.told, out)
 }
 
 /// Answers the lines of a file, or of `input` by the name of `-`.
@@ -186,16 +210,30 @@ where
 {
     let steps = answering.query.steps.as_mut_slice();
     let buffer = &mut answering.buffer;
-    if answering.query.end != LinesEnd::Write {
-        return tally_lines(
-            rt,
-            answering.alloc,
-            answering.workers,
-            steps,
-            buffer,
-            input,
-            &mut answering.tally,
-        );
+    match answering.query.end {
+        LinesEnd::Count | LinesEnd::CountBy => {
+            return tally_lines(
+                rt,
+                answering.alloc,
+                answering.workers,
+                steps,
+                buffer,
+                input,
+                &mut answering.tally,
+            );
+        }
+        LinesEnd::Figures(_) => {
+            return tally_lines(
+                rt,
+                answering.alloc,
+                answering.workers,
+                steps,
+                buffer,
+                input,
+                &mut answering.figures,
+            );
+        }
+        LinesEnd::Write => {}
     }
     if is_last {
         return answer_lines(
@@ -233,6 +271,15 @@ fn report<E: Write>(
     let Err(fault) = outcome else {
         return 0;
     };
+    if let LinesFault::Check(before) = fault {
+        let line = before.wrapping_add(1);
+        let _ = writeln!(
+            err,
+            "plinq: {name}: line {line}: no number where the query wants one"
+        );
+        let _ = err.flush();
+        return 4;
+    }
     let _ = match (fault, read, write) {
         (LinesFault::Read, Some(error), _) => writeln!(err, "plinq: {name}: {error}"),
         (LinesFault::Read, None, _) => writeln!(err, "plinq: {name}: {fault}"),

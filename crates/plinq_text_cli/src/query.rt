@@ -1,6 +1,9 @@
 use crate::query_fault::QueryFault;
 use crate::tokens::{Token, tokens_of};
-use plinq_text::{Field, Fields, Known, LineStep, LineTest, Seen, Separator, TestKind};
+use plinq_tally::Told;
+use plinq_text::{
+    Field, Fields, Known, LineStep, LineTest, Number, Seen, Separator, TestKind, number_of,
+};
 use regex::Error;
 use regex::bytes::Regex;
 use std::alloc::Global;
@@ -26,12 +29,27 @@ pub enum LinesEnd {
     Count,
     /// How often each comes is written (.NET's `CountBy`).
     CountBy,
+    /// What their numbers come to is written: each line is a number and, parted by a byte, its key.
+    Figures(FiguresEnd),
+}
+
+/// What is written of numbers.
+#[derive(Clone, Copy, Debug, PartialEq, Eq)]
+pub struct FiguresEnd {
+    /// What is told of them.
+    pub told: Told,
+    /// What parts a number from its key.
+    pub separator: u8,
+    /// Whether there is a line for each key.
+    pub is_by_key: bool,
 }
 
 /// Reads a query from its words: steps that are parted by bars.
 ///
 /// ```text
 /// filter [not] [field N [by TEXT]] contains|starts_with|ends_with|is|matches TEXT
+/// filter [not] [field N [by TEXT]] <|<=|>|>=|=|!=|below|above|equal NUMBER
+/// filter [not] [field N [by TEXT]] is_number
 /// select field N.. [by TEXT]
 /// take N
 /// skip N
@@ -42,12 +60,14 @@ pub enum LinesEnd {
 /// count
 /// count by line
 /// count by field N.. [by TEXT]
+/// sum|min|max|mean [field N] [by field N..] [by TEXT]
 /// ```
 ///
 /// A text stands in double quotes, in which `\"`, `\\`, `\t` and `\r` are what they are in Rust. Without blanks, quotes and bars it
 /// may do without. That of `matches` is a regular expression, whose backslashes are its own. Fields are counted from 1, and
 /// several are written in the order in which the query names them: `1 3`, `1,3`, `2-4`. A last `3-` is the text from that one on. A
-/// `not` may stand behind a field as well. A count is the last step.
+/// `not` may stand behind a field as well. A count or a sum is the last step. What is compared or added with a number must be one, which a
+/// [`Check`](LineStep::Check) before the step sees to.
 ///
 /// # Errors
 ///
@@ -93,8 +113,11 @@ fn add_step(
     }
     if take_word(&mut parts, "count") {
         query.end = add_key(alloc, number, &mut query.steps, &mut parts)?;
+    } else if let Some(told) = take_told(&mut parts) {
+        query.end = add_figures(alloc, number, told, &mut query.steps, &mut parts)?;
     } else {
-        query.steps.push(step_of(alloc, number, &mut parts)?)?;
+        let step = step_of(alloc, number, &mut query.steps, &mut parts)?;
+        query.steps.push(step)?;
     }
     if parts.is_empty() {
         return Ok(());
@@ -121,6 +144,98 @@ fn add_key(
         steps.push(LineStep::Select(fields))?;
     }
     Ok(LinesEnd::CountBy)
+}
+
+/// What is told of numbers, if that is what comes next.
+fn take_told(parts: &mut Vec<Token>) -> Option<Told> {
+    if take_word(parts, "sum") {
+        return Some(Told::Sum);
+    }
+    if take_word(parts, "min") {
+        return Some(Told::Least);
+    }
+    if take_word(parts, "max") {
+        return Some(Told::Greatest);
+    }
+    if take_word(parts, "mean") {
+        return Some(Told::Mean);
+    }
+    None
+}
+
+/// Adds the steps that leave of each line its number and its key, and check that the number is one.
+fn add_figures(
+    alloc: Global,
+    number: usize,
+    told: Told,
+    steps: &mut Vec<LineStep>,
+    parts: &mut Vec<Token>,
+) -> Result<LinesEnd, QueryFault> {
+    let index = if take_word(parts, "field") {
+        index_of(number, parts)?
+    } else {
+        0
+    };
+    let of_number = if is_key_next(parts) {
+        Separator::Blanks
+    } else {
+        separator_of(number, parts)?
+    };
+    let mut fields = Fields {
+        indexes: Vec::new(alloc),
+        rest: None,
+        separator: of_number,
+    };
+    fields.indexes.push(index)?;
+    let is_by_key = take_word(parts, "by");
+    if is_by_key {
+        let key = fields_of(alloc, number, parts)?;
+        fields.indexes.extend_from_slice(key.indexes.as_slice())?;
+        fields.rest = key.rest;
+        fields.separator = one_separator(number, of_number, key.separator)?;
+    }
+    // (what stands between two selected fields)
+    let separator = match fields.separator {
+        Separator::Blanks => b' ',
+        Separator::Byte(byte) => byte,
+    };
+    steps.push(LineStep::Select(fields))?;
+    let first = Field {
+        index: 0,
+        separator: Separator::Byte(separator),
+    };
+    steps.push(LineStep::Check(number_test(alloc, Some(first), TestKind::IsNumber, false)))?;
+    Ok(LinesEnd::Figures(FiguresEnd {
+        told,
+        separator,
+        is_by_key,
+    }))
+}
+
+/// The separator of a number and its key: blanks, unless one of them has another, which is both's.
+fn one_separator(
+    number: usize,
+    first: Separator,
+    other: Separator,
+) -> Result<Separator, QueryFault> {
+    match (first, other) {
+        (Separator::Blanks, _) => Ok(other),
+        (_, Separator::Blanks) => Ok(first),
+        _ if first == other => Ok(first),
+        _ => Err(QueryFault::TwoSeparators(number)),
+    }
+}
+
+/// Whether `by field` comes next.
+fn is_key_next(parts: &Vec<Token>) -> bool {
+    let Some((last, before)) = parts.as_slice().split_last() else {
+        return false;
+    };
+    is_word(last, "by")
+        && match before.last() {
+            Some(next) => is_word(next, "field"),
+            None => false,
+        }
 }
 
 /// Which fields stand behind `by`; none if the whole line does.
@@ -150,15 +265,28 @@ fn distinct_key(
     Ok(None)
 }
 
-fn step_of(alloc: Global, number: usize, parts: &mut Vec<Token>) -> Result<LineStep, QueryFault> {
+/// The step of these tokens. A check is added before it if it compares numbers.
+fn step_of(
+    alloc: Global,
+    number: usize,
+    steps: &mut Vec<LineStep>,
+    parts: &mut Vec<Token>,
+) -> Result<LineStep, QueryFault> {
     let Some(name) = next_word(parts) else {
         return Err(QueryFault::UnknownStep(number));
     };
     match name.as_str() {
-        "filter" => Ok(LineStep::Filter(test_of(alloc, number, parts)?)),
+        "filter" => Ok(LineStep::Filter(checked_test(alloc, number, steps, parts)?)),
         "select" => Ok(LineStep::Select(fields_of(alloc, number, parts)?)),
-        "take_while" => Ok(LineStep::TakeWhile(test_of(alloc, number, parts)?)),
-        "skip_while" => Ok(LineStep::SkipWhile(test_of(alloc, number, parts)?)),
+        "take_while" => Ok(LineStep::TakeWhile(checked_test(alloc, number, steps, parts)?)),
+        "skip_while" => {
+            let test = test_of(alloc, number, parts)?;
+            // (lines after the first that fails are not compared, and may be anything)
+            if compares_numbers(test.kind) {
+                return Err(QueryFault::SkipsNumbers(number));
+            }
+            Ok(LineStep::SkipWhile(test))
+        }
         "distinct" => Ok(LineStep::Distinct(Known {
             key: distinct_key(alloc, number, parts)?,
             seen: Seen::new(alloc),
@@ -166,6 +294,37 @@ fn step_of(alloc: Global, number: usize, parts: &mut Vec<Token>) -> Result<LineS
         "take" => Ok(LineStep::Take(count_of(number, parts)?)),
         "skip" => Ok(LineStep::Skip(count_of(number, parts)?)),
         _ => Err(QueryFault::UnknownStep(number)),
+    }
+}
+
+/// A test, after a check that what it compares with a number is one.
+fn checked_test(
+    alloc: Global,
+    number: usize,
+    steps: &mut Vec<LineStep>,
+    parts: &mut Vec<Token>,
+) -> Result<LineTest, QueryFault> {
+    let test = test_of(alloc, number, parts)?;
+    if compares_numbers(test.kind) {
+        steps.push(LineStep::Check(number_test(alloc, test.field, TestKind::IsNumber, false)))?;
+    }
+    Ok(test)
+}
+
+fn compares_numbers(kind: TestKind) -> bool {
+    match kind {
+        TestKind::Below(_) | TestKind::Above(_) | TestKind::Equal(_) => true,
+        _ => false,
+    }
+}
+
+/// A test of a number, which has no text.
+fn number_test(alloc: Global, field: Option<Field>, kind: TestKind, negated: bool) -> LineTest {
+    LineTest {
+        field,
+        kind,
+        text: String::new(alloc),
+        negated,
     }
 }
 
@@ -180,6 +339,14 @@ fn test_of(alloc: Global, number: usize, parts: &mut Vec<Token>) -> Result<LineT
     let Some(name) = next_word(parts) else {
         return Err(QueryFault::NoTest(number));
     };
+    if name.as_str() == "is_number" {
+        return Ok(number_test(alloc, field, TestKind::IsNumber, negated));
+    }
+    if is_order(name.as_str()) {
+        let wanted = wanted_number(number, parts)?;
+        let (kind, is_other) = order_of(name.as_str(), wanted);
+        return Ok(number_test(alloc, field, kind, negated != is_other));
+    }
     let Some(kind) = kind_of(name.as_str()) else {
         return Err(QueryFault::NoTest(number));
     };
@@ -209,6 +376,37 @@ fn check_pattern(alloc: Global, number: usize, text: &str) -> Result<(), QueryFa
         Err(Error::OutOfMemory) => Err(QueryFault::Memory),
         Err(Error::CompiledTooBig) => Err(QueryFault::LargePattern(number)),
         Err(error) => Err(QueryFault::Pattern(number, error)),
+    }
+}
+
+/// The number that a test compares with.
+fn wanted_number(number: usize, parts: &mut Vec<Token>) -> Result<Number, QueryFault> {
+    let Some(text) = next_text(parts)? else {
+        return Err(QueryFault::NotANumber(number));
+    };
+    match number_of(text.as_bytes()) {
+        Some(wanted) => Ok(wanted),
+        None => Err(QueryFault::NotANumber(number)),
+    }
+}
+
+fn is_order(name: &str) -> bool {
+    match name {
+        "below" | "above" | "equal" => true,
+        "<" | "<=" | ">" | ">=" | "=" | "==" | "!=" => true,
+        _ => false,
+    }
+}
+
+/// How a comparison of this name compares with a number, and whether it passes what doesn't compare so.
+fn order_of(name: &str, wanted: Number) -> (TestKind, bool) {
+    match name {
+        "below" | "<" => (TestKind::Below(wanted), false),
+        ">=" => (TestKind::Below(wanted), true),
+        "above" | ">" => (TestKind::Above(wanted), false),
+        "<=" => (TestKind::Above(wanted), true),
+        "!=" => (TestKind::Equal(wanted), true),
+        _ => (TestKind::Equal(wanted), false),
     }
 }
 
@@ -297,11 +495,10 @@ fn index_in(number: usize, digits: &str) -> Result<u64, QueryFault> {
     }
 }
 
-/// The index of a field, whose number counts from 1.
 fn index_of(number: usize, parts: &mut Vec<Token>) -> Result<u64, QueryFault> {
-    match next_number(parts) {
-        None | Some(0) => Err(QueryFault::NoField(number)),
-        Some(count) => Ok(count - 1),
+    match next_word(parts) {
+        Some(word) => index_in(number, word.as_str()),
+        None => Err(QueryFault::NoField(number)),
     }
 }
 
@@ -337,7 +534,14 @@ fn next_number(parts: &mut Vec<Token>) -> Option<u64> {
 /// Whether this word comes next, which stays there.
 fn has_next(parts: &Vec<Token>, wanted: &str) -> bool {
     match parts.last() {
-        Some(Token::Word(word)) => word.as_str() == wanted,
+        Some(token) => is_word(token, wanted),
+        None => false,
+    }
+}
+
+fn is_word(token: &Token, wanted: &str) -> bool {
+    match token {
+        Token::Word(word) => word.as_str() == wanted,
         _ => false,
     }
 }

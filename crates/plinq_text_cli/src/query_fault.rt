@@ -23,14 +23,20 @@ pub enum QueryFault {
     #[error("step {0} is empty")]
     NoStep(usize),
     /// A step has another name.
-    #[error("step {0} is none of filter, select, take, skip, take_while, skip_while, distinct and count")]
+    #[error("step {0} is none of filter, select, take, skip, take_while, skip_while, distinct, count, sum, min, max and mean")]
     UnknownStep(usize),
     /// A filter, take_while or skip_while has no test.
-    #[error("step {0} wants contains, starts_with, ends_with, is or matches, with or without not before it")]
+    #[error("step {0} wants contains, starts_with, ends_with, is, matches or is_number, or a comparison like < or above, with or without not before it")]
     NoTest(usize),
     /// A test has no text.
     #[error("step {0}: a text is missing, as in contains \"disk full\"")]
     NoText(usize),
+    /// A comparison has no number.
+    #[error("step {0}: a comparison wants a number with at most nine digits after the point, as in field 2 > 1.5")]
+    NotANumber(usize),
+    /// A skip_while compares numbers.
+    #[error("step {0}: skip_while compares no numbers, since it has to look at one line that may be none")]
+    SkipsNumbers(usize),
     /// What a test is to match is no regular expression.
     #[error("step {0}: the pattern is wrong: {1}")]
     Pattern(usize, regex::Error),
@@ -52,8 +58,11 @@ pub enum QueryFault {
     /// A count or a distinct doesn't say by what.
     #[error("step {0}: by wants line or a field, as in count by field 2")]
     NoKey(usize),
-    /// A step follows a count.
-    #[error("step {0} follows a count, which is the last step of a query")]
+    /// A number and its key have different separators.
+    #[error("step {0}: a number and its key have one separator")]
+    TwoSeparators(usize),
+    /// A step follows a count or a sum.
+    #[error("step {0} follows the last step of a query: count, sum, min, max and mean end it")]
     AfterCount(usize),
     /// Something follows a whole step.
     #[error("step {0} goes on after its end: a bar parts two steps")]

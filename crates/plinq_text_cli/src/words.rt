@@ -7,6 +7,8 @@ use std::alloc::{AllocError, Global};
 const AFTER_HELP: &str = r#"A query is one or more steps, parted by bars:
   filter [not] [field N [by TEXT]] contains|starts_with|ends_with|is|matches TEXT
            lets a line pass by its text, or by a field of it
+  filter [not] [field N [by TEXT]] <|<=|>|>=|=|!= NUMBER   lets a line pass by a number, which has at most nine digits after the
+           point: below, above and equal are <, > and = as well, and is_number lets a line pass that has one there
   select field N.. [by TEXT]   puts fields in the line's place, counted from 1: between blanks, or by one byte;
            several as 1 3, 1,3 or 2-4, and a last N- is the text from that field on
   take N   ends after so many lines
@@ -17,6 +19,8 @@ const AFTER_HELP: &str = r#"A query is one or more steps, parted by bars:
   count   as the last step: writes how many lines there are
   count by line|field N.. [by TEXT]   writes how often each line or field comes: the count, a tab, the text, in the order in which
            they came first
+  sum [field N] [by field N..] [by TEXT]   as the last step: writes the sum of a field's numbers, or of the first field's, for all
+           lines or for each key: the sum, a tab, the key; min, max and mean do so with the least, the greatest and the mean
 A TEXT stands in double quotes, in which \" \\ \t and \r are a quote, a backslash, a tab and a carriage return. Without blanks,
 quotes and bars it needs none. That of matches is a regular expression with the syntax of Rust's regex, and its backslashes are
 those of the expression. Steps look at bytes, so any file will do. A line feed ends a line, and stays as it is.
@@ -26,6 +30,7 @@ Lines are written in their order as soon as they are ready. Errors go to standar
 Exit status:
   0  all lines were answered, or help was shown
   2  the words or the query were refused
+  4  a line has no number where the query wants one: what was written is the answer to the lines before it
   5  memory ran out, no thread could be started, or reading or writing failed: what was written is the answer to the first lines
 
 Example, which prints the second column of all lines but the first of a table:

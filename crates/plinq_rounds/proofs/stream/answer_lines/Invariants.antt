@@ -5,6 +5,6 @@ use Rattle.plinq_rounds.proofs.stream.answer_lines.Given as goal
 abbrev pub invariant-loop : goal.invariant-loop
 invariant-loop g l = record {
   streamed : Streamed l.fn.steps (g.I.Read.remaining l.fn.reader) (g.I.Read.remaining l.reader) (g.W.Write.contents l.fn.out)
-      (g.W.Write.contents l.out) l.buffer l.steps;
+      (g.W.Write.contents l.out) l.buffer l.steps l.lines;
   patterns : ArePatternsOf l.steps l.patterns.items;
 }

@@ -4,6 +4,6 @@ use Rattle.plinq_rounds.proofs.tallying.tally_lines.Given as goal
 
 abbrev pub invariant-loop : goal.invariant-loop
 invariant-loop g l = record {
-  tallied : Tallied l.fn.steps (g.I.Read.remaining l.fn.reader) (g.I.Read.remaining l.reader) l.fn.tally l.tally l.buffer l.steps;
+  tallied : Tallied g.T.TakeLines.after l.fn.steps (g.I.Read.remaining l.fn.reader) (g.I.Read.remaining l.reader) l.fn.taker l.taker l.buffer l.steps l.lines;
   patterns : ArePatternsOf l.steps l.patterns.items;
 }

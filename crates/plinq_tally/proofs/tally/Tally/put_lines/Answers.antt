@@ -1,4 +1,4 @@
-use Rattle.std.proofs.Common.{◌++◌, ◌<◌, length, append_assoc, take, subst, ap, sym, ◌∙◌}
+use Rattle.std.proofs.Common.{[], ◌++◌, ◌<◌, length, append_assoc, take, subst, ap, sym, ◌∙◌}
 use Rattle.plinq_tally.specs.Tallies.{count_line, tally_text}
 use Rattle.plinq_tally.proofs.TallyLaws.{is-there, text-more}
 use Rattle.plinq_tally.proofs.tally.Tally.put_lines.Goals.{in-Some+in_ok-put_line, in_default}
@@ -18,5 +18,5 @@ loop-i-preserved c =
           ∙ ap (λ b. b ++ line) c.loop-i.invariant
           ∙ append_assoc out (tally_text (take i gs)) line
           ∙ ap (λ b. out ++ b) (sym (text-more gs i (w.in-Some.text.now, w.in-Some.count) (sym w.in-Some.ensures)))
-      | in_default w ↦ is-there gs i within (sym w.in_default.ensures)
+      | in_default w ↦ is-there gs i ([], 0) within (sym w.in_default.ensures)
     ]

@@ -1,4 +1,4 @@
-use Rattle.std.proofs.Common.{◌+◌, ◌%◌, ◌<◌, length, subst, ap, sym, ◌∙◌}
+use Rattle.std.proofs.Common.{[], ◌+◌, ◌%◌, ◌<◌, length, subst, ap, sym, ◌∙◌}
 use Rattle.plinq_tally.proofs.TallyLaws.{is-there, total-more}
 use Rattle.plinq_tally.proofs.tally.Tally.total.Goals.{in-Some, in_default}
 use Rattle.plinq_tally.proofs.tally.Tally.total.Goals as goal
@@ -12,5 +12,5 @@ loop-i-preserved c =
       | in-Some w ↦ w.total-is
           ∙ ap (λ n. (n + w.in-Some.count) % 18446744073709551616) c.loop-i.invariant
           ∙ sym (total-more gs i (w.in-Some.field-0-0.now, w.in-Some.count) (sym w.in-Some.ensures))
-      | in_default w ↦ is-there gs i within (sym w.in_default.ensures)
+      | in_default w ↦ is-there gs i ([], 0) within (sym w.in_default.ensures)
     ]
