@@ -30,8 +30,8 @@ ORDERS = {
     "above": lambda a, b: a > b,
     "equal": lambda a, b: a == b,
 }
-GOOD = (b"0", b"1", b"2", b"7", b"-3", b"2.5", b"007", b"+4", b".5", b"5.", b"-0.000000001", b"0.1", b"18446744073709551615", b"-18446744073709551615.999999999")
-BAD = (b"x", b"-", b"1e3", b"1.2.3", b"0.0000000001", b"18446744073709551616", b"+-1", b"1,5", b"NaN", b"")
+GOOD = (b"0", b"1", b"2", b"7", b"-3", b"2.5", b"007", b"+4", b".5", b"5.", b"-0.000000001", b"0.1", b"18446744073709551615", b"2\r", b"\t4", b"-18446744073709551615.999999999")
+BAD = (b"x", b"- 1", b"-", b"1e3", b"1.2.3", b"0.0000000001", b"18446744073709551616", b"+-1", b"1,5", b"NaN", b"")
 
 
 class Bad(Exception):
@@ -40,7 +40,7 @@ class Bad(Exception):
 
 def number_of(text):
     """How many billionths a number is, or nothing."""
-    parts = re.fullmatch(rb"([+-]?)([0-9]*)(?:\.([0-9]{0,9}))?", text)
+    parts = re.fullmatch(rb"([+-]?)([0-9]*)(?:\.([0-9]{0,9}))?", text.strip(b" \t\r"))
     if not parts or not (parts[2] or parts[3]) or int(parts[2] or b"0") >= 2**64:
         return None
     size = int(parts[2] or b"0") * UNIT + int((parts[3] or b"").ljust(9, b"0"))

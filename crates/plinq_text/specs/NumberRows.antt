@@ -64,3 +64,11 @@ the_greatest_before_the_point = refl
 one_more : number_of (codes "18446744073709551616") ≡ None
 unfolding digits
 one_more = refl
+
+blanks_around_it : number_of (codes " 5\t\r") ≡ Some (pos 5000000000)
+unfolding digits
+blanks_around_it = refl
+
+another_word : number_of (codes "5 6") ≡ None
+unfolding digits
+another_word = refl

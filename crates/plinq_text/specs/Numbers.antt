@@ -2,7 +2,7 @@
 use Rattle.std.specs.Prelude.{ℕ, ◌+◌, ◌*◌, ◌-◌, ◌^◌, ◌==◌, ◌&&◌, Bool, not, nat_le, nat_lt, if◌then◌else◌, ℤ, pos, neg_ℤ, List, [], ◌∷◌, length, take, drop}
 use Rattle.std.specs.Prelude.{Option, Some, None, option_map, option_and_then}
 use Rattle.std.specs.Char.{is_ascii_digit}
-use Rattle.plinq_text.specs.Fields.{place_of}
+use Rattle.plinq_text.specs.Fields.{after_blanks, is_blank, place_of}
 
 -- a number with one digit more, if it is less than 2^64 then
 abbrev pub with_digit : ℕ → ℕ → Option ℕ
@@ -31,9 +31,18 @@ parts_number whole part =
 abbrev pub magnitude : List ℕ → Option ℕ
 magnitude text = parts_number (take (place_of is_point text) text) (drop (place_of is_point text + 1) text)
 
--- the billionths of a number
-abbrev pub number_of : List ℕ → Option ℤ
-number_of [] = None
-number_of (b ∷ rest) =
+-- the billionths of a number with its sign
+abbrev pub signed_number : List ℕ → Option ℤ
+signed_number [] = None
+signed_number (b ∷ rest) =
     if b == 45 then option_map (λ n. neg_ℤ (pos n)) (magnitude rest)
     else option_map pos (magnitude (if b == 43 then rest else b ∷ rest))
+
+-- the first word of a text that begins with one, if blanks alone follow it
+abbrev pub only_word : List ℕ → Option (List ℕ)
+only_word text =
+    if length (after_blanks (drop (place_of is_blank text) text)) == 0 then Some (take (place_of is_blank text) text) else None
+
+-- the billionths of the number that a text is, with blanks around it or without
+abbrev pub number_of : List ℕ → Option ℤ
+number_of text = option_and_then signed_number (only_word (after_blanks text))

@@ -202,7 +202,7 @@ pub(crate) fn after(text: &[u8], byte: u8) -> &[u8]
     }
 }
 
-fn skip_blanks(text: &[u8]) -> &[u8]
+pub(crate) fn skip_blanks(text: &[u8]) -> &[u8]
     ensures { result.now ≡ after_blanks text.now }
 {
     &text[blanks(text)..]
@@ -222,7 +222,7 @@ fn blanks(text: &[u8]) -> usize
 }
 
 /// How many bytes stand before the first blank.
-fn word_len(text: &[u8]) -> usize
+pub(crate) fn word_len(text: &[u8]) -> usize
     ensures value { result ≡ place_of is_blank text.now }
     ensures within { result ≤ length text.now }
 {

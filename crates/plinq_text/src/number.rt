@@ -1,7 +1,7 @@
 ghost use Rattle.std.specs.Prelude.{◌≡◌, ◌≤◌, ◌≤ℤ◌, ◌*◌, ◌-◌, ◌^◌, pos, neg_ℤ, option_map, IfSome};
-ghost use Rattle.plinq_text.specs.Numbers.{digits, magnitude, number_of, parts_number, with_digit};
+ghost use Rattle.plinq_text.specs.Numbers.{digits, magnitude, number_of, only_word, parts_number, signed_number, with_digit};
 
-use crate::fields::{after, before};
+use crate::fields::{after, before, skip_blanks, word_len};
 
 /// A number, exact to nine digits after the point.
 #[derive(Clone, Copy, Debug, PartialEq, Eq)]
@@ -10,8 +10,8 @@ pub struct Number {
     pub billionths: i128,
 }
 
-/// The number that a text is, if it is one: digits, of which at most nine stand after a point. A sign may stand in front. What
-/// stands before the point is less than 2^64.
+/// The number that a text is, if it is one: digits, of which at most nine stand after a point. A sign may stand in front, and blanks
+/// around it. What stands before the point is less than 2^64.
 ///
 /// ```text
 /// number_of(b"-1.5")   // Some(Number { billionths: -1_500_000_000 })
@@ -20,21 +20,34 @@ pub struct Number {
 pub fn number_of(text: &[u8]) -> Option<Number>
     ensures { option_map (λ n. n.billionths) result ≡ number_of text.now }
 {
+    let word = only_word(skip_blanks(text))?;
+    let billionths = signed_number(word)?;
+    Some(Number { billionths })
+}
+
+/// The first word of a text that begins with one, if blanks alone follow it.
+fn only_word(text: &[u8]) -> Option<&[u8]>
+    ensures { option_map (λ t. t.now) result ≡ only_word text.now }
+{
+    let (word, rest) = text.split_at(word_len(text));
+    if skip_blanks(rest).is_empty() {
+        Some(word)
+    } else {
+        None
+    }
+}
+
+/// How many billionths a number with its sign is.
+fn signed_number(text: &[u8]) -> Option<i128>
+    ensures { result ≡ signed_number text.now }
+{
     match text.split_first() {
         Some((b'-', rest)) => {
             let billionths = magnitude(rest)?;
-            Some(Number {
-                billionths: -billionths,
-            })
+            Some(-billionths)
         }
-        Some((b'+', rest)) => {
-            let billionths = magnitude(rest)?;
-            Some(Number { billionths })
-        }
-        _ => {
-            let billionths = magnitude(text)?;
-            Some(Number { billionths })
-        }
+        Some((b'+', rest)) => magnitude(rest),
+        _ => magnitude(text),
     }
 }
 
