@@ -15,7 +15,7 @@ import tempfile
 import threading
 
 from lines import WORKERS, fields_of, lines_of, words_of_field, words_of_numbers
-from support.program import HANGS, PLINQ, Outcome, Tests, build, run
+from support.program import HANGS, PLINQ, Outcome, Tests, build, run, run_on_file
 
 UNIT = 10**9
 ORDERS = {
@@ -181,14 +181,14 @@ def by_random(tests):
         end = some_end(by) if turn % 2 else None
         wanted = answer(steps, end, text)
         faults += wanted.status == 4
-        seen = run(["lines", "--workers", by.choice(WORKERS), words_of(steps, end)], text)
+        seen = (run_on_file if by.random() < 0.5 else run)(["lines", "--workers", by.choice(WORKERS), words_of(steps, end)], text)
         tests.check(f"random numbers {turn}: {words_of(steps, end)}", seen == wanted, f"{str(seen)[-400:]}; wanted {str(wanted)[-400:]}")
     tests.check("some have a line without a number, and some have none", 60 < faults < 260, faults)
 
 
 def far_away(tests):
     """A line without a number is named by its own number, however far it is, by whatever step and worker."""
-    rows = [b"%d %d %s\n" % (at, at % 7, b"abcdefg"[at % 7 : at % 7 + 1]) for at in range(200_000)]
+    rows = [b"%d %d %s of a line that is longer than its number\n" % (at, at % 7, b"abcdefg"[at % 7 : at % 7 + 1]) for at in range(200_000)]
     for bad in (0, 1, 99_999, 150_000, 199_999):
         text = b"".join(rows[:bad] + [b"%d x y\n" % bad] + rows[bad + 1 :])
         for steps, end in (
@@ -202,9 +202,10 @@ def far_away(tests):
             ([("take", 150_000)], ("max", 2, [3], None)),
         ):
             wanted = answer(steps, end, text)
-            for workers in ("1", "4"):
-                seen = run(["lines", "--workers", workers, words_of(steps, end)], text)
-                tests.check(f"line {bad + 1} of `{words_of(steps, end)}` by {workers}", seen == wanted, f"{str(seen)[-300:]}; wanted {str(wanted)[-300:]}")
+            for workers, from_where in (("1", run), ("4", run), ("1", run_on_file), ("4", run_on_file), ("64", run_on_file)):
+                seen = from_where(["lines", "--workers", workers, words_of(steps, end)], text)
+                name = f"line {bad + 1} of `{words_of(steps, end)}` by {workers}, {from_where.__name__}"
+                tests.check(name, seen == wanted, f"{str(seen)[-300:]}; wanted {str(wanted)[-300:]}")
 
 
 def by_pieces(tests):

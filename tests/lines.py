@@ -18,7 +18,7 @@ import subprocess
 import tempfile
 import threading
 
-from support.program import HANGS, PLINQ, ROOT, Outcome, Tests, build, run
+from support.program import HANGS, PLINQ, ROOT, Outcome, Tests, build, run, run_on_file
 
 # How many bytes a block of lines has at least, and a read at most (crates/plinq_rounds).
 BLOCK, READ = 262_144, 4_194_304
@@ -230,13 +230,16 @@ def at_edges(tests):
             first = b"x" * (size + off - 1) + b"\n"
             text = first + b"y\nxy\n" + b"z" * 300_000 + b"\nlast x"
             for workers in ("1", "4"):
-                seen = lines(words_of(steps), text, ["--workers", workers])
-                tests.check(f"a line of {size + off} bytes by {workers}", seen == Outcome(0, answer(steps, lines_of(text)), b""), str(seen)[:200])
+                for how, by in (("a pipe", run), ("a file", run_on_file)):
+                    seen = by(["lines", "--workers", workers, words_of(steps)], text)
+                    tests.check(f"a line of {size + off} bytes from {how} by {workers}", seen == Outcome(0, answer(steps, lines_of(text)), b""), str(seen)[:200])
     text = b"".join(b"%d x\n" % it if it % 3 else b"%d\n" % it for it in range(1_500_000))
     for given in (steps, [("skip_while", None, True, "contains", b"700000 x"), ("take_while", None, True, "is", b"1400000 x")], [("skip", 700_001), ("filter", None, False, "contains", b"x"), ("take", 400_000)], [("select", [1], None), ("skip", 1_499_999)], [("select", [2, 1], None), ("filter", None, False, "starts_with", b"x 1")], [("skip_while", None, True, "is", b"700000 x"), ("select", [1, 2, 1], None), ("take", 500_000)], [("count", None)], [("filter", None, False, "contains", b"x"), ("skip", 1_000), ("count", None)], [("count", ([2], None))], [("select", [2], None), ("take", 900_000), ("count", "line")], [("filter", None, False, "contains", b"x"), ("take", 4_000), ("distinct", ([2, 1], None)), ("skip", 10)], [("filter", (1, None), False, "matches", b"b+c")], [("filter", None, False, "matches", b"(?i)A\\r?$"), ("take", 3)]):
+        wanted = Outcome(0, answer(given, lines_of(text)), b"")
         for workers in ("1", "2", "64"):
-            seen = lines(words_of(given), text, ["--workers", workers])
-            tests.check(f"{words_of(given)} of 14 MB by {workers}", seen == Outcome(0, answer(given, lines_of(text)), b""), str(seen)[:200])
+            for how, by in (("a pipe", run), ("a file", run_on_file)):
+                seen = by(["lines", "--workers", workers, words_of(given)], text)
+                tests.check(f"{words_of(given)} of 14 MB from {how} by {workers}", seen == wanted, str(seen)[:200])
 
 
 def by_pieces(tests):

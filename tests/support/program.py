@@ -2,6 +2,7 @@
 import os
 import subprocess
 import sys
+import tempfile
 
 ROOT = os.path.dirname(os.path.dirname(os.path.dirname(os.path.abspath(__file__))))
 EXAMPLES = os.path.join(ROOT, "examples")
@@ -61,6 +62,14 @@ def run(words, given=b"", program=PLINQ, **how):
         streams["input"] = given
     ran = subprocess.run([program, *words], timeout=HANGS, **streams)
     return Outcome(ran.returncode, ran.stdout, ran.stderr)
+
+
+def run_on_file(words, given, **how):
+    """The same with a file as input, of which a read gives as much as is asked for; a pipe gives little at a time."""
+    with tempfile.TemporaryFile() as file:
+        file.write(given)
+        file.seek(0)
+        return run(words, stdin=file, **how)
 
 
 def shared_library(source, folder):

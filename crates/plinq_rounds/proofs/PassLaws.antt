@@ -1,5 +1,5 @@
 -- What is written before a flush, and lines in one block.
-use Rattle.std.proofs.Common.{◌≡◌, ◌⊎◌, inl, inr, ℕ, false, Option, List, [], ◌∷◌, Result, Ok, Err, IfOk, length, flat_map, append-nil, arith, refl, ap}
+use Rattle.std.proofs.Common.{◌≡◌, ◌⊎◌, inl, inr, ℕ, false, Option, List, [], ◌∷◌, Result, Ok, Err, IfErr, IfOk, length, flat_map, append-nil, arith, refl, ap}
 use Rattle.std.proofs.Common.{sym, subst, ◌∙◌}
 use Rattle.std.specs.Io.KnownBytes.{Appends, Keeps}
 use Rattle.std.proofs.KnownBytes.{Appends-kept, Keeps-trans}
@@ -96,6 +96,13 @@ no-steps (s ∷ ss) none ls = absurd (omega arith)
 pub still-ok : {A E : Type 0} {P Q : A → Type 0} (r : Result A E) → ((x : A) → P x → Q x) → IfOk r P → IfOk r Q
 still-ok (Ok x) f p = f x p
 still-ok (Err e) f p = tt
+
+-- and of a value that there is, or of a failure
+pub ok-is : {A E : Type 0} (P : A → Type 0) (r : Result A E) (x : A) → r ≡ Ok x → IfOk r P → P x
+ok-is P r x is p = subst (λ r. IfOk r P) is p
+
+pub err-is : {A E : Type 0} (P : E → Type 0) (r : Result A E) (x : E) → r ≡ Err x → IfErr r P → P x
+err-is P r x is p = subst (λ r. IfErr r P) is p
 
 pub both-ok : {A E : Type 0} {P Q R : A → Type 0} (r : Result A E) → ((x : A) → P x → Q x → R x) → IfOk r P → IfOk r Q → IfOk r R
 both-ok (Ok x) f p q = f x p q

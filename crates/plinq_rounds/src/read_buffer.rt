@@ -1,4 +1,4 @@
-ghost use Rattle.std.specs.Prelude.{◌≡◌, ◌≤◌, ◌<◌, ◌+◌, ◌++◌, true, false, [], List, ℕ, IfOk, IfErr, length, take, drop, vec_len};
+ghost use Rattle.std.specs.Prelude.{◌≡◌, ◌≤◌, ◌<◌, ◌+◌, ◌++◌, true, false, [], List, ℕ, IfOk, IfErr, IfSome, length, take, drop, vec_len};
 ghost use Rattle.std.specs.Io.KnownBytes.{Consumes, IsAtEnd};
 ghost use Rattle.plinq_rounds.specs.Streams.{fails};
 ghost use Rattle.plinq_rounds.specs.Tallying.{ended};
@@ -9,6 +9,9 @@ use memchr::memrchr;
 use std::alloc::Global;
 use std::io::Read;
 use std::marker::Model;
+
+/// A read that gave so many bytes has more behind it, which is read while it is answered. Less may be all that there is for now.
+pub(crate) const BESIDE_BYTES: usize = 2_097_152;
 
 /// What was read and isn't answered yet, and room for more.
 ///
@@ -77,6 +80,24 @@ impl ReadBuffer {
         Ok(count)
     }
 
+    /// One read, unless one has come already. Returns how many bytes it gave, which stand at the end of what was read.
+    pub(crate) fn read_unless<I: Read>(
+        &mut self,
+        came: Option<usize>,
+        reader: &mut I,
+    ) -> Result<usize, LinesFault>
+        requires { IfSome came (λ n. (n ≤ length self.old) × (n ≡ 0 → IsAtEnd (I.remaining reader.old))) }
+        ensures came { IfOk result (λ n. (piece : List ℕ) × (n ≤ length self.new) × (self.new ≡ self.old ++ piece)
+            × Consumes (I.remaining reader.old) (I.remaining reader.new) piece) }
+        ensures ended { IfOk result (λ n. n ≡ 0 → IsAtEnd (I.remaining reader.new)) }
+        ensures failed { IfErr result (λ fault. fails fault ≡ false) }
+    {
+        match came {
+            Some(count) => Ok(count),
+            None => self.read(reader),
+        }
+    }
+
     /// How many bytes the whole lines have that end in the last bytes of what was read; none if no line ends there.
     pub(crate) fn whole_lines(&self, last: usize) -> usize
         requires { last ≤ length self.now }
@@ -89,6 +110,33 @@ impl ReadBuffer {
             Some(end) => before + end + 1,
             None => 0,
         }
+    }
+
+    /// What was read behind the first bytes.
+    pub(crate) fn back(&self, count: usize) -> &[u8]
+        requires { count ≤ length self.now }
+        ensures { result.now ≡ drop count self.now }
+    {
+        let (_, back) = self.as_slice().split_at(count);
+        back
+    }
+
+    /// A buffer of the same room that takes no memory yet.
+    pub(crate) fn another(&self, alloc: Global) -> ReadBuffer
+        ensures { result ≡ [] }
+    {
+        ReadBuffer::new(alloc, self.first_room)
+    }
+
+    /// Holds these bytes alone.
+    pub(crate) fn hold(&mut self, text: &[u8]) -> Result<(), LinesFault>
+        ensures held { IfOk result (λ _. self.new ≡ text.now) }
+        ensures failed { IfErr result (λ fault. fails fault ≡ false) }
+    {
+        self.count = 0;
+        fill(&mut self.bytes, text, self.first_room)?;
+        self.count = text.len();
+        Ok(())
     }
 
     /// Gives a last line its line feed if it has none.
@@ -144,6 +192,24 @@ fn make_room(bytes: &mut Vec<u8>, count: usize, first_room: usize) -> Result<(),
         Ok(()) => Ok(()),
         Err(_) => Err(LinesFault::Memory),
     }
+}
+
+/// Writes a text to the front of a list, which is given room for as much again if it has too little.
+fn fill(bytes: &mut Vec<u8>, text: &[u8], first_room: usize) -> Result<(), LinesFault>
+    ensures filled { IfOk result (λ _. take (length text.now) bytes.new.items ≡ text.now) }
+    ensures room { IfOk result (λ _. length text.now ≤ vec_len bytes.new) }
+    ensures failed { IfErr result (λ fault. fails fault ≡ false) }
+{
+    let wanted = text.len().saturating_mul(2).max(first_room);
+    if bytes.len() < wanted && bytes.resize(wanted, 0).is_err() {
+        return Err(LinesFault::Memory);
+    }
+    if bytes.len() < text.len() {
+        return Err(LinesFault::Memory);
+    }
+    let (front, _) = bytes.split_at_mut(text.len());
+    front.copy_from_slice(text);
+    Ok(())
 }
 
 /// One read into what comes after so many bytes.

@@ -1,21 +1,23 @@
-ghost use Rattle.std.specs.Prelude.{◌≡◌, ◌⊎◌, ◌+◌, ◌%◌, true, IfOk, IfErr, length};
-ghost use Rattle.std.specs.Io.KnownBytes.{Keeps};
+ghost use Rattle.std.specs.Prelude.{◌≡◌, ◌≤◌, ◌⊎◌, ◌+◌, ◌++◌, ◌%◌, true, false, List, ℕ, IfOk, IfErr, length};
+ghost use Rattle.std.specs.Thread.{IsSync};
+ghost use Rattle.std.specs.Io.KnownBytes.{Consumes, IsAtEnd, Keeps};
 ghost use Rattle.plinq_rounds.specs.inner.Rounds.{IsFlushFailed, behind, ends_behind};
-ghost use Rattle.plinq_rounds.specs.Streams.{AnswersLines, Passes};
+ghost use Rattle.plinq_rounds.specs.Streams.{AnswersLines, Passes, fails};
 ghost use Rattle.plinq_rounds.specs.declared.lines_fault.LinesFault.TheVariants.{Write};
 ghost use Rattle.plinq_text.specs.Lines.{is_whole, lines_of};
 ghost use Rattle.plinq_text.specs.Steady.{has_check};
 ghost use Rattle.plinq_text.specs.StepPatterns.{ArePatternsOf};
 
 use crate::lines_fault::LinesFault;
-use crate::read_buffer::ReadBuffer;
+use crate::read_buffer::{BESIDE_BYTES, ReadBuffer};
 use crate::round::{answer_here, answer_round};
 use plinq_settings::Degree;
 use plinq_text::{LineStep, Pattern, has_check, is_over, line_count, patterns};
 use std::alloc::Global;
 use std::io::{Read, Write};
+use std::mem;
 use std::sync::Wait;
-use std::thread::Threads;
+use std::thread::{Threads, join_mut};
 use std::time::Clock;
 
 /// Writes what a query's steps make of the lines of a reader's bytes, as they are read, and leaves what is left of the steps.
@@ -40,7 +42,7 @@ pub fn answer_lines<R, I, W>(
 ) -> Result<(), LinesFault>
 where
     R: Clock + Threads + Wait + Sync,
-    I: Read,
+    I: Read + Send,
     W: Write,
     ensures { AnswersLines steps.old (I.remaining reader.old) (W.contents out.old) (W.contents out.new) result steps.new }
 {
@@ -49,11 +51,13 @@ where
         return Err(LinesFault::Memory);
     };
     let mut lines = 0;
+    let mut next = buffer.another(alloc);
+    let mut came = None;
     for _ in 0..u64::MAX {
         if is_over(steps) {
             return Ok(());
         }
-        let count = match buffer.read(reader) {
+        let count = match buffer.read_unless(came, reader) {
             Ok(count) => count,
             Err(fault) => return Err(fault),
         };
@@ -62,6 +66,40 @@ where
             return ends_behind(lines, outcome);
         }
         let whole = buffer.whole_lines(count);
+        if workers.number() > 1 && count >= BESIDE_BYTES {
+            if let Err(fault) = next.hold(buffer.back(whole)) {
+                return Err(fault);
+            }
+            let (read, outcome) = answer_beside(
+                rt,
+                alloc,
+                workers,
+                steps,
+                patterns.as_slice(),
+                buffer.front(whole),
+                &mut next,
+                reader,
+                out,
+            );
+            match outcome {
+                Ok(()) => {
+                    lines = counted(steps, lines, buffer.front(whole));
+                    if is_over(steps) {
+                        return Ok(());
+                    }
+                    match read {
+                        Ok(count) => {
+                            came = Some(count);
+                            mem::swap(buffer, &mut next);
+                            continue;
+                        }
+                        Err(fault) => return Err(fault),
+                    }
+                }
+                Err(fault) => return Err(behind(lines, fault)),
+            }
+        }
+        came = None;
         match answer_whole(
             rt,
             alloc,
@@ -79,6 +117,42 @@ where
         }
     }
     Err(LinesFault::Read)
+}
+
+/// Answers whole lines, and flushes the writer, while the next bytes are read.
+fn answer_beside<R, I, W>(
+    rt: &R,
+    alloc: Global,
+    workers: Degree,
+    steps: &mut [LineStep],
+    patterns: &[Pattern],
+    text: &[u8],
+    next: &mut ReadBuffer,
+    reader: &mut I,
+    out: &mut W,
+) -> (Result<usize, LinesFault>, Result<(), LinesFault>)
+where
+    R: Clock + Threads + Wait + Sync,
+    I: Read + Send,
+    W: Write,
+    requires patterns { ArePatternsOf steps.old patterns.now }
+    requires whole { is_whole text.now ≡ true }
+    ensures passes { Passes steps.old (lines_of text.now) (W.contents out.old) (W.contents out.new) result.1 steps.new }
+    ensures kept { IfOk result.1 (λ _. ArePatternsOf steps.new patterns.now) }
+    ensures came { IfOk result.0 (λ n. (piece : List ℕ) × (length piece ≡ n) × (next.new ≡ next.old ++ piece)
+        × Consumes (I.remaining reader.old) (I.remaining reader.new) piece) }
+    ensures ended { IfOk result.0 (λ n. n ≡ 0 → IsAtEnd (I.remaining reader.new)) }
+    ensures failed { IfErr result.0 (λ fault. fails fault ≡ false) }
+{
+    join_mut(
+        rt,
+        &mut || next.read(reader),
+        &mut || -> Result<(), LinesFault>
+            requires { IsSync R.row × ArePatternsOf steps.now patterns.now × (is_whole text.now ≡ true) }
+            ensures { Passes steps.entry.now (lines_of text.entry.now) (W.contents out.entry.now) (W.contents out.exit.now) result steps.exit.now
+                × IfOk result (λ _. ArePatternsOf steps.exit.now patterns.entry.now) }
+        { answer_whole(rt, alloc, workers, steps, patterns, text, out) },
+    )
 }
 
 /// Answers whole lines, and flushes the writer.

@@ -1,7 +1,10 @@
-ghost use Rattle.std.specs.Prelude.{◌≡◌, true, IfOk, flat_map};
+ghost use Rattle.std.specs.Prelude.{◌≡◌, ◌++◌, true, false, List, ℕ, IfOk, IfErr, flat_map, length};
+ghost use Rattle.std.specs.Io.KnownBytes.{Consumes, IsAtEnd};
+ghost use Rattle.std.specs.Thread.{IsSync};
 ghost use Rattle.std.specs.List.{fold};
 ghost use Rattle.plinq_lines.specs.Written.{Writes};
 ghost use Rattle.plinq_rounds.specs.inner.Rounds.{RoundEnds};
+ghost use Rattle.plinq_rounds.specs.Streams.{fails};
 ghost use Rattle.plinq_rounds.specs.Tallying.{TakesLines};
 ghost use Rattle.plinq_tally.specs.FigureText.{figures_text};
 ghost use Rattle.plinq_tally.specs.Tallies.{tally_text, total_text};
@@ -11,7 +14,7 @@ ghost use Rattle.plinq_text.specs.Steps.{answer, bad_line, left};
 
 use crate::block::Block;
 use crate::lines_fault::LinesFault;
-use crate::read_buffer::ReadBuffer;
+use crate::read_buffer::{BESIDE_BYTES, ReadBuffer};
 use crate::round::{end_of, pass_round};
 use crate::stream::{behind, counted, ends_behind, flush};
 use plinq_lines::write_bytes;
@@ -20,8 +23,9 @@ use plinq_tally::{Figures, TakeLines, Tally, Told};
 use plinq_text::{LineStep, Pattern, is_over, patterns};
 use std::alloc::{AllocError, Global};
 use std::io::{Read, Write};
+use std::mem;
 use std::sync::Wait;
-use std::thread::Threads;
+use std::thread::{Threads, join_mut};
 use std::time::Clock;
 
 /// Takes in each line that a query's steps make of the lines of a reader's bytes, and leaves what is left of the steps. A
@@ -46,7 +50,7 @@ pub fn tally_lines<R, I, T>(
 ) -> Result<(), LinesFault>
 where
     R: Clock + Threads + Wait + Sync,
-    I: Read,
+    I: Read + Send,
     T: TakeLines,
     ensures { TakesLines (T.after) steps.old (I.remaining reader.old) taker.old taker.new result steps.new }
 {
@@ -55,11 +59,13 @@ where
         return Err(LinesFault::Memory);
     };
     let mut lines = 0;
+    let mut next = buffer.another(alloc);
+    let mut came = None;
     for _ in 0..u64::MAX {
         if is_over(steps) {
             return Ok(());
         }
-        let count = match buffer.read(reader) {
+        let count = match buffer.read_unless(came, reader) {
             Ok(count) => count,
             Err(fault) => return Err(fault),
         };
@@ -81,6 +87,40 @@ where
             }
         }
         let whole = buffer.whole_lines(count);
+        if workers.number() > 1 && count >= BESIDE_BYTES {
+            if let Err(fault) = next.hold(buffer.back(whole)) {
+                return Err(fault);
+            }
+            let (read, outcome) = tally_beside(
+                rt,
+                alloc,
+                workers,
+                steps,
+                patterns.as_slice(),
+                buffer.front(whole),
+                &mut next,
+                reader,
+                taker,
+            );
+            match outcome {
+                Ok(()) => {
+                    lines = counted(steps, lines, buffer.front(whole));
+                    if is_over(steps) {
+                        return Ok(());
+                    }
+                    match read {
+                        Ok(count) => {
+                            came = Some(count);
+                            mem::swap(buffer, &mut next);
+                            continue;
+                        }
+                        Err(fault) => return Err(fault),
+                    }
+                }
+                Err(fault) => return Err(behind(lines, fault)),
+            }
+        }
+        came = None;
         match tally_round(
             rt,
             alloc,
@@ -150,6 +190,46 @@ pub fn write_figures<W: Write>(
     let mut lines = Vec::new(alloc);
     figures.put_lines(told, &mut lines)?;
     write_flushed(out, lines.as_slice())
+}
+
+/// Takes in what the steps make of a text of whole lines while the next bytes are read, and leaves what is left of them.
+fn tally_beside<R, I, T>(
+    rt: &R,
+    alloc: Global,
+    workers: Degree,
+    steps: &mut [LineStep],
+    patterns: &[Pattern],
+    text: &[u8],
+    next: &mut ReadBuffer,
+    reader: &mut I,
+    taker: &mut T,
+) -> (Result<usize, LinesFault>, Result<(), LinesFault>)
+where
+    R: Clock + Threads + Wait + Sync,
+    I: Read + Send,
+    T: TakeLines,
+    requires patterns { ArePatternsOf steps.old patterns.now }
+    requires whole { is_whole text.now ≡ true }
+    ensures takes { IfOk result.1 (λ _. taker.new ≡ fold (T.after) taker.old (answer steps.old (lines_of text.now))) }
+    ensures left { IfOk result.1 (λ _. steps.new ≡ left steps.old (lines_of text.now)) }
+    ensures bad { RoundEnds (bad_line steps.old (lines_of text.now)) result.1 }
+    ensures kept { IfOk result.1 (λ _. ArePatternsOf steps.new patterns.now) }
+    ensures came { IfOk result.0 (λ n. (piece : List ℕ) × (length piece ≡ n) × (next.new ≡ next.old ++ piece)
+        × Consumes (I.remaining reader.old) (I.remaining reader.new) piece) }
+    ensures ended { IfOk result.0 (λ n. n ≡ 0 → IsAtEnd (I.remaining reader.new)) }
+    ensures failed { IfErr result.0 (λ fault. fails fault ≡ false) }
+{
+    join_mut(
+        rt,
+        &mut || next.read(reader),
+        &mut || -> Result<(), LinesFault>
+            requires { IsSync R.row × ArePatternsOf steps.now patterns.now × (is_whole text.now ≡ true) }
+            ensures { IfOk result (λ _. taker.exit.now ≡ fold (T.after) taker.entry.now (answer steps.entry.now (lines_of text.entry.now)))
+                × IfOk result (λ _. steps.exit.now ≡ left steps.entry.now (lines_of text.entry.now))
+                × RoundEnds (bad_line steps.entry.now (lines_of text.entry.now)) result
+                × IfOk result (λ _. ArePatternsOf steps.exit.now patterns.entry.now) }
+        { tally_round(rt, alloc, workers, steps, patterns, text, taker) },
+    )
 }
 
 /// Takes in what the steps make of a text of whole lines, and leaves what is left of them.

@@ -31,7 +31,7 @@ fn first_field(text: &[u8], separator: Separator) -> &[u8]
 {
     match separator {
         Separator::Blanks => &text[..word_len(text)],
-        Separator::Byte(byte) => before(text, byte),
+        Separator::Byte(byte) => part_at(text, byte).before,
     }
 }
 
@@ -143,7 +143,7 @@ fn from_column(text: &[u8], byte: u8, index: u64) -> &[u8]
         if rest.is_empty() {
             return rest;
         }
-        rest = after(rest, byte);
+        rest = part_at(rest, byte).after;
     }
     rest
 }
@@ -176,29 +176,15 @@ pub fn part_at(text: &[u8], byte: u8) -> Parts<'_>
     ensures before { result.before.now ≡ take (place_of (λ b. b == byte) text.now) text.now }
     ensures after { result.after.now ≡ drop (place_of (λ b. b == byte) text.now + 1) text.now }
 {
-    Parts {
-        before: before(text, byte),
-        after: after(text, byte),
-    }
-}
-
-/// What stands before the first byte of this value.
-pub(crate) fn before(text: &[u8], byte: u8) -> &[u8]
-    ensures { result.now ≡ take (place_of (λ b. b == byte) text.now) text.now }
-{
     match memchr(byte, text) {
-        Some(end) => &text[..end],
-        None => text,
-    }
-}
-
-/// What stands after it.
-pub(crate) fn after(text: &[u8], byte: u8) -> &[u8]
-    ensures { result.now ≡ drop (place_of (λ b. b == byte) text.now + 1) text.now }
-{
-    match memchr(byte, text) {
-        Some(end) => &text[end + 1..],
-        None => NOTHING,
+        Some(end) => Parts {
+            before: &text[..end],
+            after: &text[end + 1..],
+        },
+        None => Parts {
+            before: text,
+            after: NOTHING,
+        },
     }
 }
 

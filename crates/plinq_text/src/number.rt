@@ -1,7 +1,7 @@
 ghost use Rattle.std.specs.Prelude.{◌≡◌, ◌≤◌, ◌≤ℤ◌, ◌*◌, ◌-◌, ◌^◌, pos, neg_ℤ, option_map, IfSome};
 ghost use Rattle.plinq_text.specs.Numbers.{digits, magnitude, number_of, only_word, parts_number, signed_number, with_digit};
 
-use crate::fields::{after, before, skip_blanks, word_len};
+use crate::fields::{part_at, skip_blanks, word_len};
 
 /// A number, exact to nine digits after the point.
 #[derive(Clone, Copy, Debug, PartialEq, Eq)]
@@ -56,7 +56,8 @@ fn magnitude(text: &[u8]) -> Option<i128>
     ensures value { result ≡ option_map pos (magnitude text.now) }
     ensures positive { IfSome result (λ n. pos 0 ≤ℤ n) }
 {
-    parts_number(before(text, b'.'), after(text, b'.'))
+    let parts = part_at(text, b'.');
+    parts_number(parts.before, parts.after)
 }
 
 /// The same of the digits before and after its point.

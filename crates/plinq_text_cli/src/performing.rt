@@ -50,7 +50,8 @@ pub fn perform_lines<R, I, W, E>(
 ) -> u8
 where
     R: AllocGlobal + Clock + Files + Threads + Wait + Sync,
-    I: Read,
+    R::File: Send,
+    I: Read + Send,
     W: Write,
     E: Write,
     ensures { result ≤ 5 }
@@ -73,7 +74,8 @@ fn answer<R, I, W, E>(
 ) -> u8
 where
     R: Clock + Files + Threads + Wait + Sync,
-    I: Read,
+    R::File: Send,
+    I: Read + Send,
     W: Write,
     E: Write,
     ensures { result ≤ 5 }
@@ -122,7 +124,8 @@ fn answer_files<R, I, W, E>(
 ) -> u8
 where
     R: Clock + Files + Threads + Wait + Sync,
-    I: Read,
+    R::File: Send,
+    I: Read + Send,
     W: Write,
     E: Write,
     ensures { result ≤ 5 }
@@ -176,7 +179,8 @@ fn answer_named<R, I, W, E>(
 ) -> u8
 where
     R: Clock + Files + Threads + Wait + Sync,
-    I: Read,
+    R::File: Send,
+    I: Read + Send,
     W: Write,
     E: Write,
     ensures { result ≤ 5 }
@@ -205,7 +209,7 @@ fn answer_part<R, I, W>(
 ) -> Result<(), LinesFault>
 where
     R: Clock + Threads + Wait + Sync,
-    I: Read,
+    I: Read + Send,
     W: Write,
 {
     let steps = answering.query.steps.as_mut_slice();

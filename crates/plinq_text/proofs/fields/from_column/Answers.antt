@@ -11,7 +11,7 @@ loop-column-preserved c =
     let rest = c.loop-column.rest.now in
     let left = c.args.index - (c.loop-column._column + 1) in
     let on : c.args.index - c.loop-column._column ≡ suc left = omega arith in
-    c.loop-column.invariant ∙ ap (λ n. from_column byte n rest) on ∙ from_column-suc byte left rest ∙ ap (from_column byte left) (sym c.after-rest.ensures)
+    c.loop-column.invariant ∙ ap (λ n. from_column byte n rest) on ∙ from_column-suc byte left rest ∙ ap (from_column byte left) (sym c.part_at.ensures.after)
 
 pub returns-then-is_empty : goal.returns-then-is_empty
 returns-then-is_empty c =
