@@ -76,7 +76,12 @@ class Answer:
             if name in ("filter", "take_while"):
                 field, negated, kind, wanted = values
                 looked_at = fields_of(text, [field[0]], field[1]) if field else text
-                passes = number_of(looked_at) is not None if kind == "is_number" else ORDERS[kind](wanted_number(looked_at), number_of(wanted))
+                if kind == "is_number":
+                    passes = number_of(looked_at) is not None
+                elif kind.startswith("length "):
+                    passes = ORDERS[kind.split()[1]](len(looked_at), int(wanted))
+                else:
+                    passes = ORDERS[kind](wanted_number(looked_at), number_of(wanted))
                 if passes == negated:
                     self.left[at] = name == "filter"
                     return
@@ -151,7 +156,9 @@ def some_step(by):
     name = by.choice(("filter", "filter", "filter", "take_while", "select", "take", "skip"))
     if name in ("filter", "take_while"):
         field = (by.randint(1, 3), by.choice((None, None, b","))) if by.random() < 0.8 else None
-        kind = by.choice(list(ORDERS) + ["is_number"])
+        kind = by.choice(list(ORDERS) + ["is_number", "length " + by.choice(list(ORDERS))])
+        if kind.startswith("length "):
+            return name, field, by.random() < 0.3, kind, by.choice((b"0", b"1", b"2", b"5", b"18446744073709551615"))
         return name, field, by.random() < 0.3, kind, by.choice(GOOD[:11] + (b"-18446744073709551615",))
     if name == "select":
         return name, [by.randint(1, 3) for _ in range(by.choice((1, 2, 3)))], by.choice((None, b","))
@@ -254,6 +261,8 @@ def files(tests):
 
 def mistakes(tests):
     end = "\n\nFor more information, try '--help'.\n"
+    no_length = "step 1: length is compared with a number of bytes, as in length > 80"
+    wants_a_test = "step 1 wants contains, starts_with, ends_with, is, matches or is_number, or a comparison like < or length >, with or without not before it"
     no_number = "step 1: a comparison wants a number with at most nine digits after the point, as in field 2 > 1.5"
     for query, said in (
         ("filter field 2 >", no_number),
@@ -261,6 +270,11 @@ def mistakes(tests):
         ("filter field 2 > 1e3", no_number),
         ("filter field 2 below 0.0000000001", no_number),
         ("filter field 2 > 1 2", "step 1 goes on after its end: a bar parts two steps"),
+        ("filter length", wants_a_test),
+        ("filter length is 3", no_length),
+        ("filter field 2 length > x", no_length),
+        ("filter length > 1.5", no_length),
+        ("filter length > -1", no_length),
         ("skip_while field 2 > 1", "step 1: skip_while compares no numbers, since it has to look at one line that may be none"),
         ("sum field", "step 1: field wants a number from 1 on, as in select field 2"),
         ("sum field 1-2", "step 1: field wants a number from 1 on, as in select field 2"),

@@ -327,7 +327,7 @@ def files(tests, folder):
 
 def mistakes(tests):
     end = "\n\nFor more information, try '--help'.\n"
-    wants_a_test = "step 1 wants contains, starts_with, ends_with, is, matches or is_number, or a comparison like < or above, with or without not before it"
+    wants_a_test = "step 1 wants contains, starts_with, ends_with, is, matches or is_number, or a comparison like < or length >, with or without not before it"
     unknown = "none of filter, select, take, skip, take_while, skip_while, distinct, count, sum, min, max and mean"
     follows = "step 2 follows the last step of a query: count, sum, min, max and mean end it"
     wants_a_byte = 'step 1: by wants a text of one byte that isn\'t a line feed, as by "," or by "\\t"'

@@ -85,7 +85,7 @@ def main():
     every = commands | {"lines": about_lines.partition("\n")[0]}
     steps = re.findall(r"^  (\S.*?)(?:   (.*))?\n((?:           .*\n)*)", about_lines.partition("parted by bars:\n")[2].partition("A TEXT stands")[0], re.M)
     names = [words.split()[0] for words, _, _ in steps]
-    tests.check("help has the steps of lines", names == "filter filter select take skip take_while skip_while distinct count count sum".split(), steps)
+    tests.check("help has the steps of lines", names == "filter filter filter select take skip take_while skip_while distinct count count sum".split(), steps)
     plain = re.sub(r"\\f[BIR]", "", sections["LINES"])
     for words, about, more in steps:
         told = " ".join(f"{words} {about} {more}".split())

@@ -22,8 +22,9 @@ use std::time::Clock;
 
 /// Writes what a query's steps make of the lines of a reader's bytes, as they are read, and leaves what is left of the steps.
 ///
-/// Each read is answered at once as far as it has whole lines, by so many workers if it is long. Once no line more can come out of
-/// the steps, nothing more is read. The last line need not end in a line feed; what is made of it ends in none then.
+/// Each read is answered at once as far as it has whole lines, by so many workers if it is long; the next read comes beside that
+/// then. Once no line more can come out of the steps, no read begins. The last line need not end in a line feed; what is made of it
+/// ends in none then.
 ///
 /// # Errors
 ///

@@ -31,8 +31,8 @@ use std::time::Clock;
 /// Takes in each line that a query's steps make of the lines of a reader's bytes, and leaves what is left of the steps. A
 /// [`Tally`] counts how often each comes, [`Figures`] what the numbers of lines come to.
 ///
-/// Each read is taken in as far as it has whole lines; if it is long, so many workers apply the first steps. Once no line more can
-/// come out of the steps, nothing more is read. A last line is taken in as if it ended in a line feed.
+/// Each read is taken in as far as it has whole lines; if it is long, so many workers apply the first steps, and the next read comes
+/// beside that. Once no line more can come out of the steps, no read begins. A last line is taken in as if it ended in a line feed.
 ///
 /// # Errors
 ///

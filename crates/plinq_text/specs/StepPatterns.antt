@@ -5,6 +5,7 @@ use Rattle.plinq_text.specs.declared.line_step.LineStep.TheVariants.{Filter, Sel
 use Rattle.plinq_text.specs.declared.line_test.LineTest.{LineTest}
 use Rattle.plinq_text.specs.declared.line_test.TestKind.{TestKind}
 use Rattle.plinq_text.specs.declared.line_test.TestKind.TheVariants.{Contains, StartsWith, EndsWith, Is, Matches, IsNumber, Below, Above, Equal}
+use Rattle.plinq_text.specs.declared.line_test.TestKind.TheVariants.{ShorterThan, LongerThan, HasLength}
 
 -- the pattern of a comparison, if it has one
 abbrev pub pattern_for : TestKind → List ℕ → Option (List ℕ)
@@ -17,6 +18,9 @@ pattern_for IsNumber wanted = None
 pattern_for (Below n) wanted = None
 pattern_for (Above n) wanted = None
 pattern_for (Equal n) wanted = None
+pattern_for (ShorterThan n) wanted = None
+pattern_for (LongerThan n) wanted = None
+pattern_for (HasLength n) wanted = None
 
 abbrev pub pattern_of : LineTest → Option (List ℕ)
 pattern_of t = pattern_for t.kind (string_bytes t.text)

@@ -1,6 +1,6 @@
 -- What the steps of a query make of lines.
 use Rattle.std.specs.Prelude.{ℕ, zero, suc, ◌-◌, ◌==◌, nat_eq, ◌||◌, ◌&&◌, Bool, true, false, not, if◌then◌else◌, List, [], ◌∷◌, ◌++◌, take}
-use Rattle.std.specs.Prelude.{drop, map, filter, Option, Some, None, is_some, option_map, option_and_then, string_bytes, ℤ, int_lt, ◌+◌}
+use Rattle.std.specs.Prelude.{drop, map, filter, Option, Some, None, is_some, option_map, option_and_then, string_bytes, ℤ, int_lt, ◌+◌, nat_lt, length}
 use Rattle.std.specs.Ordering.{int_eq}
 use Rattle.std.specs.List.{starts_with, ends_with, prefix_len, take_while, list_any}
 use Rattle.std.specs.Str.{bytes_eq}
@@ -12,6 +12,7 @@ use Rattle.plinq_text.specs.declared.line_step.LineStep.TheVariants.{Filter, Sel
 use Rattle.plinq_text.specs.declared.line_test.LineTest.{LineTest}
 use Rattle.plinq_text.specs.declared.line_test.TestKind.{TestKind}
 use Rattle.plinq_text.specs.declared.line_test.TestKind.TheVariants.{Contains, StartsWith, EndsWith, Is, Matches, IsNumber, Below, Above, Equal}
+use Rattle.plinq_text.specs.declared.line_test.TestKind.TheVariants.{ShorterThan, LongerThan, HasLength}
 use Rattle.plinq_text.specs.Fields.{field_of, fields_of}
 use Rattle.plinq_text.specs.Numbers.{number_of}
 use Rattle.plinq_text.specs.Patterns.{pattern_finds}
@@ -37,6 +38,9 @@ compares IsNumber wanted bytes = is_some (number_of bytes)
 compares (Below n) wanted bytes = number_passes (λ x. int_lt x n.billionths) (number_of bytes)
 compares (Above n) wanted bytes = number_passes (λ x. int_lt n.billionths x) (number_of bytes)
 compares (Equal n) wanted bytes = number_passes (λ x. int_eq x n.billionths) (number_of bytes)
+compares (ShorterThan n) wanted bytes = nat_lt (length bytes) n
+compares (LongerThan n) wanted bytes = nat_lt n (length bytes)
+compares (HasLength n) wanted bytes = length bytes == n
 
 -- what a test looks at: a field of a text, or all of it
 abbrev pub subject : Option Field → List ℕ → List ℕ

@@ -42,6 +42,12 @@ pub enum TestKind {
     Above(Number),
     /// They are this number.
     Equal(Number),
+    /// They are fewer than so many bytes.
+    ShorterThan(u64),
+    /// They are more than so many.
+    LongerThan(u64),
+    /// They are so many.
+    HasLength(u64),
 }
 
 /// Whether a line's text passes the test, of which `searcher` searches for the pattern if it has one.
@@ -89,5 +95,8 @@ fn compares(kind: TestKind, wanted: &[u8], searcher: &mut Searcher<'_>, text: &[
             Some(number) => number.billionths == wanted.billionths,
             None => false,
         },
+        TestKind::ShorterThan(count) => (text.len() as u64) < count,
+        TestKind::LongerThan(count) => text.len() as u64 > count,
+        TestKind::HasLength(count) => text.len() as u64 == count,
     }
 }

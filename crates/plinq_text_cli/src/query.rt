@@ -50,6 +50,7 @@ pub struct FiguresEnd {
 /// filter [not] [field N [by TEXT]] contains|starts_with|ends_with|is|matches TEXT
 /// filter [not] [field N [by TEXT]] <|<=|>|>=|=|!=|below|above|equal NUMBER
 /// filter [not] [field N [by TEXT]] is_number
+/// filter [not] [field N [by TEXT]] length <|<=|>|>=|=|!= N
 /// select field N.. [by TEXT]
 /// take N
 /// skip N
@@ -318,7 +319,7 @@ fn compares_numbers(kind: TestKind) -> bool {
     }
 }
 
-/// A test of a number, which has no text.
+/// A test of a number or of a length, which has no text.
 fn number_test(alloc: Global, field: Option<Field>, kind: TestKind, negated: bool) -> LineTest {
     LineTest {
         field,
@@ -336,9 +337,14 @@ fn test_of(alloc: Global, number: usize, parts: &mut Vec<Token>) -> Result<LineT
         None
     };
     let negated = is_not || take_word(parts, "not");
+    let is_length = take_word(parts, "length");
     let Some(name) = next_word(parts) else {
         return Err(QueryFault::NoTest(number));
     };
+    if is_length {
+        let (kind, is_other) = length_of(number, name.as_str(), parts)?;
+        return Ok(number_test(alloc, field, kind, negated != is_other));
+    }
     if name.as_str() == "is_number" {
         return Ok(number_test(alloc, field, TestKind::IsNumber, negated));
     }
@@ -408,6 +414,28 @@ fn order_of(name: &str, wanted: Number) -> (TestKind, bool) {
         "!=" => (TestKind::Equal(wanted), true),
         _ => (TestKind::Equal(wanted), false),
     }
+}
+
+/// How a comparison of this name compares a length, and whether it passes what doesn't compare so.
+fn length_of(
+    number: usize,
+    name: &str,
+    parts: &mut Vec<Token>,
+) -> Result<(TestKind, bool), QueryFault> {
+    if !is_order(name) {
+        return Err(QueryFault::NotALength(number));
+    }
+    let Some(count) = next_number(parts) else {
+        return Err(QueryFault::NotALength(number));
+    };
+    Ok(match name {
+        "below" | "<" => (TestKind::ShorterThan(count), false),
+        ">=" => (TestKind::ShorterThan(count), true),
+        "above" | ">" => (TestKind::LongerThan(count), false),
+        "<=" => (TestKind::LongerThan(count), true),
+        "!=" => (TestKind::HasLength(count), true),
+        _ => (TestKind::HasLength(count), false),
+    })
 }
 
 fn kind_of(name: &str) -> Option<TestKind> {

@@ -26,7 +26,7 @@ pub enum QueryFault {
     #[error("step {0} is none of filter, select, take, skip, take_while, skip_while, distinct, count, sum, min, max and mean")]
     UnknownStep(usize),
     /// A filter, take_while or skip_while has no test.
-    #[error("step {0} wants contains, starts_with, ends_with, is, matches or is_number, or a comparison like < or above, with or without not before it")]
+    #[error("step {0} wants contains, starts_with, ends_with, is, matches or is_number, or a comparison like < or length >, with or without not before it")]
     NoTest(usize),
     /// A test has no text.
     #[error("step {0}: a text is missing, as in contains \"disk full\"")]
@@ -34,6 +34,9 @@ pub enum QueryFault {
     /// A comparison has no number.
     #[error("step {0}: a comparison wants a number with at most nine digits after the point, as in field 2 > 1.5")]
     NotANumber(usize),
+    /// A length isn't compared with a number of bytes.
+    #[error("step {0}: length is compared with a number of bytes, as in length > 80")]
+    NotALength(usize),
     /// A skip_while compares numbers.
     #[error("step {0}: skip_while compares no numbers, since it has to look at one line that may be none")]
     SkipsNumbers(usize),

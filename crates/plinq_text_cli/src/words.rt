@@ -9,6 +9,7 @@ const AFTER_HELP: &str = r#"A query is one or more steps, parted by bars:
            lets a line pass by its text, or by a field of it
   filter [not] [field N [by TEXT]] <|<=|>|>=|=|!= NUMBER   lets a line pass by a number, which has at most nine digits after the
            point: below, above and equal are <, > and = as well, and is_number lets a line pass that has one there
+  filter [not] [field N [by TEXT]] length <|<=|>|>=|=|!= N   lets a line pass by how many bytes it has, or a field of it
   select field N.. [by TEXT]   puts fields in the line's place, counted from 1: between blanks, or by one byte;
            several as 1 3, 1,3 or 2-4, and a last N- is the text from that field on
   take N   ends after so many lines
