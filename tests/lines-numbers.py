@@ -152,45 +152,53 @@ def words_of(steps, end):
     return " | ".join(said)
 
 
-def some_step(by):
+def some_step(by, separator):
     name = by.choice(("filter", "filter", "filter", "take_while", "select", "take", "skip"))
     if name in ("filter", "take_while"):
-        field = (by.randint(1, 3), by.choice((None, None, b","))) if by.random() < 0.8 else None
+        field = (by.randint(1, 3), some_separator(by, separator)) if by.random() < 0.9 else None
         kind = by.choice(list(ORDERS) + ["is_number", "length " + by.choice(list(ORDERS))])
         if kind.startswith("length "):
             return name, field, by.random() < 0.3, kind, by.choice((b"0", b"1", b"2", b"5", b"18446744073709551615"))
         return name, field, by.random() < 0.3, kind, by.choice(GOOD[:11] + (b"-18446744073709551615",))
     if name == "select":
-        return name, [by.randint(1, 3) for _ in range(by.choice((1, 2, 3)))], by.choice((None, b","))
+        return name, [by.randint(1, 3) for _ in range(3)], some_separator(by, separator)
     return name, by.choice((0, 1, 3, 40, 5_000))
 
 
-def some_end(by):
-    return by.choice(("sum", "min", "max", "mean")), by.randint(1, 3), by.choice((None, [1], [2], [3, 1], [2, -3])), by.choice((None, b","))
+def some_end(by, separator):
+    return by.choice(("sum", "min", "max", "mean")), by.randint(1, 3), by.choice((None, [1], [2], [3, 1], [2, -3])), some_separator(by, separator)
 
 
-def some_text(by, count, bad):
+def some_separator(by, separator):
+    """That of the text, or now and then another one."""
+    return separator if by.random() < 0.95 else by.choice((None, b","))
+
+
+def some_text(by, separator, count, bad):
     """So many lines of fields, of which one in so many has something that is no number."""
     made = []
     for _ in range(count):
         parts = [by.choice(BAD if bad and by.randrange(bad) == 0 else GOOD) for _ in range(by.choice((3, 3, 3, 3, 4)))]
-        made.append(by.choice((b" ", b",", b" ")).join(parts))
+        made.append((separator or b" ").join(parts))
     return b"\n".join(made) + by.choice((b"\n", b"\n", b""))
 
 
 def by_random(tests):
     by = random.Random(79)
-    faults = 0
-    for turn in range(320):
-        large = turn % 20 == 0
-        text = some_text(by, 60_000 if large else by.choice((0, 1, 5, 40, 300)), by.choice((0, 3, 30, 1_000, 200_000)))
-        steps = [some_step(by) for _ in range(by.randint(0 if turn % 2 else 1, 3))]
-        end = some_end(by) if turn % 2 else None
+    faults, sums = 0, {}
+    for turn in range(360):
+        large, separator = turn % 20 == 0, by.choice((None, b","))
+        text = some_text(by, separator, 60_000 if large else by.choice((0, 1, 5, 40, 300)), by.choice((0, 0, 30, 1_000, 200_000)))
+        steps = [some_step(by, separator) for _ in range(by.randint(0, 1) if turn % 2 else by.randint(1, 3))]
+        end = some_end(by, separator) if turn % 2 else None
         wanted = answer(steps, end, text)
         faults += wanted.status == 4
+        if end and wanted.output.count(b"\n") > 1:
+            sums[end[0]] = sums.get(end[0], 0) + 1
         seen = (run_on_file if by.random() < 0.5 else run)(["lines", "--workers", by.choice(WORKERS), words_of(steps, end)], text)
         tests.check(f"random numbers {turn}: {words_of(steps, end)}", seen == wanted, f"{str(seen)[-400:]}; wanted {str(wanted)[-400:]}")
     tests.check("some have a line without a number, and some have none", 60 < faults < 260, faults)
+    tests.check("each kind of sum has some with several keys", sorted(sums) == ["max", "mean", "min", "sum"] and min(sums.values()) > 5, sums)
 
 
 def far_away(tests):
@@ -206,7 +214,8 @@ def far_away(tests):
             ([("filter", (1, None), False, ">", b"10"), ("take", 1_000), ("filter", (2, None), False, "<", b"1")], None),
             ([], ("sum", 2, None, None)),
             ([], ("mean", 2, [3], None)),
-            ([("take", 150_000)], ("max", 2, [3], None)),
+            ([("take", 150_000)], ("max", 1, [3], None)),
+            ([("take", 150_000)], ("min", 1, [3], None)),
         ):
             wanted = answer(steps, end, text)
             for workers, from_where in (("1", run), ("4", run), ("1", run_on_file), ("4", run_on_file), ("64", run_on_file)):
@@ -219,8 +228,9 @@ def by_pieces(tests):
     """Through a pipe, whose reads end within lines."""
     by = random.Random(97)
     for turn in range(10):
-        text = some_text(by, 4_000, by.choice((0, 1_000, 3_000)))
-        steps, end = [some_step(by)], some_end(by) if turn % 2 else None
+        separator = by.choice((None, b","))
+        text = some_text(by, separator, 4_000, by.choice((0, 1_000, 3_000)))
+        steps, end = [some_step(by, separator)], some_end(by, separator) if turn % 2 else None
         child = subprocess.Popen([PLINQ, "lines", words_of(steps, end)], stdin=subprocess.PIPE, stdout=subprocess.PIPE, stderr=subprocess.PIPE)
 
         def write():
