@@ -1,20 +1,19 @@
 -- What is written before a flush, and lines in one block.
-use Rattle.std.proofs.Common.{◌≡◌, ◌⊎◌, inl, inr, ℕ, false, Option, List, [], ◌∷◌, Result, Ok, Err, IfErr, IfOk, length, flat_map, append-nil, arith, refl, ap}
+use Rattle.std.proofs.Common.{◌≡◌, ◌⊎◌, inl, inr, ℕ, List, [], ◌∷◌, Result, Ok, Err, IfErr, IfOk, length, flat_map, append-nil, arith, refl, ap}
 use Rattle.std.proofs.Common.{sym, subst, ◌∙◌}
 use Rattle.std.specs.Io.KnownBytes.{Appends, Keeps}
 use Rattle.std.proofs.KnownBytes.{Appends-kept, Keeps-trans}
-use Rattle.std.proofs.Math.Bool.{true≢false}
 use Rattle.plinq_lines.specs.Written.{AppendsBeginning, Writes}
 use Rattle.plinq_lines.proofs.WrittenBytes.{Bytes, begins-all}
 use Rattle.plinq_text.specs.declared.line_step.LineStep.{LineStep}
 use Rattle.plinq_text.specs.Lines.{AreFull, Line, lines_of, written}
-use Rattle.plinq_text.specs.Steps.{answer, bad_line, left}
+use Rattle.plinq_text.specs.Steps.{answer, left}
 use Rattle.plinq_text.proofs.LineLaws.{lines-written}
 use Rattle.plinq_text.proofs.StepLaws.{left-none}
 use Rattle.plinq_rounds.specs.declared.lines_fault.LinesFault.{LinesFault}
 use Rattle.plinq_rounds.specs.declared.lines_fault.LinesFault.TheVariants.{Memory, Read, Check, Write, Thread, Incomplete}
-use Rattle.plinq_rounds.specs.inner.Rounds.{IsEndOf, IsFlushFailed, RoundEnds}
-use Rattle.plinq_rounds.specs.Streams.{BreaksOff, Passes, fails}
+use Rattle.plinq_rounds.specs.inner.Rounds.{IsFlushFailed}
+use Rattle.plinq_rounds.specs.Streams.{Passes}
 
 -- after a beginning of a text nothing more is written
 begins-kept : (a b c : Bytes) (x : List ℕ) → AppendsBeginning a b x → Keeps b c → AppendsBeginning a c x
@@ -47,36 +46,6 @@ passes-flushed {A} ss ss' ls old mid new round result p keeps (inr failed) = by 
     by (Err Thread) p is = absurd is
     by (Err Incomplete) p is = absurd is
 
--- a round's lines are written, and then it ends
-pub passes-end : {A : Type 0} (ss ss' : List LineStep) (ls : List Line) (old new : Bytes) (bad : Option ℕ) (result : Result A LinesFault)
-    → Appends old new (written (answer ss ls)) → ss' ≡ left ss ls → bad ≡ bad_line ss ls → IsEndOf bad result → Passes ss ls old new result ss'
-passes-end ss ss' ls old new bad (Ok x) all rest is end = (all, rest, sym is ∙ end)
-passes-end ss ss' ls old new bad (Err fault) all rest is end =
-    subst (λ f. BreaksOff ss ls f old new) (sym end.2) (all, sym is ∙ end.1)
-
--- a failure before anything is written
-pub broke-before : (ss : List LineStep) (ls : List Line) (old new : Bytes) (fault : LinesFault) → fails fault ≡ false → Keeps old new
-    → BreaksOff ss ls fault old new
-broke-before ss ls old new Memory other kept = kept
-broke-before ss ls old new Read other kept = kept
-broke-before ss ls old new (Check n) other kept = absurd (true≢false other)
-broke-before ss ls old new Write other kept = absurd (true≢false other)
-broke-before ss ls old new Thread other kept = kept
-broke-before ss ls old new Incomplete other kept = kept
-
--- how a round ends by such a failure, or by its first line that fails a check
-pub ends-before : (bad : Option ℕ) (fault : LinesFault) → fails fault ≡ false → RoundEnds {A = Unit {0}} bad (Err fault)
-ends-before bad Memory other = tt
-ends-before bad Read other = tt
-ends-before bad (Check n) other = absurd (true≢false other)
-ends-before bad Write other = absurd (true≢false other)
-ends-before bad Thread other = tt
-ends-before bad Incomplete other = tt
-
-pub ends-by : {A : Type 0} (bad found : Option ℕ) (result : Result A LinesFault) → found ≡ bad → IsEndOf found result → RoundEnds bad result
-ends-by bad found (Ok x) is end = sym is ∙ end
-ends-by {A} bad found (Err fault) is end = subst (λ f. RoundEnds {A = A} bad (Err f)) (sym end.2) (sym is ∙ end.1)
-
 -- a text is written, and then the writer is flushed
 pub writes-flushed : {A : Type 0} (old mid new : Bytes) (bytes : List ℕ) (r : Result A LinesFault) → Appends old mid bytes → Keeps mid new
     → Writes old new r bytes
@@ -103,10 +72,6 @@ ok-is P r x is p = subst (λ r. IfOk r P) is p
 
 pub err-is : {A E : Type 0} (P : E → Type 0) (r : Result A E) (x : E) → r ≡ Err x → IfErr r P → P x
 err-is P r x is p = subst (λ r. IfErr r P) is p
-
-pub both-ok : {A E : Type 0} {P Q R : A → Type 0} (r : Result A E) → ((x : A) → P x → Q x → R x) → IfOk r P → IfOk r Q → IfOk r R
-both-ok (Ok x) f p q = f x p q
-both-ok (Err e) f p q = tt
 
 -- lines in one block
 pub one-of-lines : (bs : List (List ℕ)) (b : List ℕ) (ls : List Line) → AreFull ls → bs ≡ b ∷ [] → b ≡ written ls

@@ -20,11 +20,6 @@ use Rattle.plinq_tally.proofs.TallyLaws.{next-item}
 abbrev pub after_figure : ℕ × List (List ℕ × Figure) → Line → ℕ × List (List ℕ × Figure)
 after_figure v l = (v.0, figured v.0 v.1 l.text)
 
--- lines by a separator that stays
-pub figured-pair : (byte : ℕ) (gs : List (List ℕ × Figure)) (ls : List Line) → fold after_figure (byte, gs) ls ≡ (byte, figured_lines byte gs ls)
-figured-pair byte gs [] = refl
-figured-pair byte gs (l ∷ ls) = figured-pair byte (figured byte gs l.text) ls
-
 -- the line of one key more
 pub figures-more : (told : Told) (gs : List (List ℕ × Figure)) (i : ℕ) (g : List ℕ × Figure) → slice_get gs i ≡ Some g
     → figures_text told (take (i + 1) gs) ≡ figures_text told (take i gs) ++ figure_line told g
