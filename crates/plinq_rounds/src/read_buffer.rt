@@ -10,7 +10,8 @@ use std::alloc::Global;
 use std::io::Read;
 use std::marker::Model;
 
-/// A read that gave so many bytes has more behind it, which is read while it is answered. Less may be all that there is for now.
+/// A read that gave so many bytes has more behind it, which is read while it is answered. Less may be all that there is for now. A
+/// line of which so many have come is read to its end first: it wouldn't fit twice.
 pub(crate) const BESIDE_BYTES: usize = 2_097_152;
 
 /// What was read and isn't answered yet, and room for more.
@@ -119,6 +120,11 @@ impl ReadBuffer {
     {
         let (_, back) = self.as_slice().split_at(count);
         back
+    }
+
+    /// How many bytes whole lines of so many leave.
+    pub(crate) fn leaves(&self, whole: usize) -> usize {
+        self.count.saturating_sub(whole)
     }
 
     /// A buffer of the same room that takes no memory yet.

@@ -67,7 +67,8 @@ where
             return ends_behind(lines, outcome);
         }
         let whole = buffer.whole_lines(count);
-        if workers.number() > 1 && count >= BESIDE_BYTES {
+        let is_short = buffer.leaves(whole) < BESIDE_BYTES;
+        if is_short && workers.number() > 1 && count >= BESIDE_BYTES {
             if let Err(fault) = next.hold(buffer.back(whole)) {
                 return Err(fault);
             }
